@@ -1,0 +1,71 @@
+-- A test of every element, or of some, along loops: over the places i to n - 1, over what they show, and to an array's end. Assumes nothing.
+use mathlib.Core.Path.{_≡_, refl, sym, ap, _∙_}
+use mathlib.Core.Bool.{Bool, true, false, _&&_, _||_, and-assoc}
+use mathlib.Core.List.{List, [], _∷_, _++_, map}
+use Prim.Native.Nat.{ℕ, _+_, _≤_, _<_}
+use native.Mathlib.Numerals.{add-one}
+use lib.ListN.{length, getD, drop, length-map, drop-of-length-le, List·getD-map}
+use lib.Seq.{slice, slice-cons, slice-empty, drop-cons}
+use Rattle.lists.specs.Lists.{every, some}
+
+module _ {A : Type 0} where
+  pub every-append : (f : A → Bool) (p q : List A) → every f (p ++ q) ≡ (every f p && every f q)
+  every-append f [] q = refl
+  every-append f (x ∷ p) q = ap (λ b. f x && b) (every-append f p q) ∙ sym (and-assoc (f x) (every f p) (every f q))
+
+  pub every-same : (f g : A → Bool) → ((x : A) → f x ≡ g x) → (l : List A) → every f l ≡ every g l
+  every-same f g h [] = refl
+  every-same f g h (x ∷ l) = rw (h x, every-same f g h l)
+
+  pub slice-next : (i n : ℕ) (l : List A) (d : A) → i < n → n ≤ length l → slice i n l ≡ getD l i d ∷ slice (i + 1) n l
+  slice-next i n l d h k = rw (add-one) (slice-cons i n l d h k)
+
+-- over what the places i to n - 1 of an array show
+module _ {A B : Type 0} (view : A → B) (l : List A) (i n : ℕ) (d : A) (h : i < n) (k : n ≤ length l) where
+  pub slice-view : slice i n (map view l) ≡ view (getD l i d) ∷ slice (i + 1) n (map view l)
+  slice-view =
+      slice-next i n (map view l) (view d) h (rw (length-map l view) k)
+      ∙ ap (λ (b : B). b ∷ slice (i + 1) n (map view l)) (List·getD-map view l i d)
+
+  pub all-fails : (f : B → Bool) → f (view (getD l i d)) ≡ false → every f (slice i n (map view l)) ≡ false
+  all-fails f e = ap (every f) slice-view ∙ rw e
+
+  pub all-goes : (f : B → Bool) → f (view (getD l i d)) ≡ true → every f (slice i n (map view l)) ≡ every f (slice (i + 1) n (map view l))
+  all-goes f e = ap (every f) slice-view ∙ rw e
+
+  pub any-here : (f : B → Bool) → f (view (getD l i d)) ≡ true → some f (slice i n (map view l)) ≡ true
+  any-here f e = ap (some f) slice-view ∙ rw e
+
+  pub any-later : (f : B → Bool) → f (view (getD l i d)) ≡ false → some f (slice i n (map view l)) ≡ some f (slice (i + 1) n (map view l))
+  any-later f e = ap (some f) slice-view ∙ rw e
+
+-- the same where the array's own elements are tested
+module _ {A : Type 0} (f : A → Bool) (i n : ℕ) (l : List A) where
+  pub every-fails : (d : A) → i < n → n ≤ length l → f (getD l i d) ≡ false → every f (slice i n l) ≡ false
+  every-fails d h k e = ap (every f) (slice-next i n l d h k) ∙ rw e
+
+  pub every-goes : (d : A) → i < n → n ≤ length l → f (getD l i d) ≡ true → every f (slice i n l) ≡ every f (slice (i + 1) n l)
+  every-goes d h k e = ap (every f) (slice-next i n l d h k) ∙ rw e
+
+  pub every-end : i ≡ n → every f (slice i n l) ≡ true
+  every-end e = rw e (ap (every f) (slice-empty n l))
+
+  pub some-here : (d : A) → i < n → n ≤ length l → f (getD l i d) ≡ true → some f (slice i n l) ≡ true
+  some-here d h k e = ap (some f) (slice-next i n l d h k) ∙ rw e
+
+  pub some-later : (d : A) → i < n → n ≤ length l → f (getD l i d) ≡ false → some f (slice i n l) ≡ some f (slice (i + 1) n l)
+  some-later d h k e = ap (some f) (slice-next i n l d h k) ∙ rw e
+
+  pub some-end : i ≡ n → some f (slice i n l) ≡ false
+  some-end e = rw e (ap (some f) (slice-empty n l))
+
+-- to an array's end
+module _ {A : Type 0} (f : A → Bool) (l : List A) (i : ℕ) where
+  pub rest-fails : (d : A) → i < length l → f (getD l i d) ≡ false → every f (drop i l) ≡ false
+  rest-fails d h e = ap (every f) (drop-cons l i d h) ∙ rw e
+
+  pub rest-goes : (d : A) → i < length l → f (getD l i d) ≡ true → every f (drop i l) ≡ every f (drop (i + 1) l)
+  rest-goes d h e = ap (every f) (drop-cons l i d h) ∙ rw (e, add-one i)
+
+  pub rest-end : length l ≤ i → every f (drop i l) ≡ true
+  rest-end h = ap (every f) (drop-of-length-le l h)

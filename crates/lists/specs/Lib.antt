@@ -1,0 +1,9 @@
+pub mod Lists
+pub mod Pick
+pub mod Bools
+pub mod Every
+pub mod Keeping
+pub mod Numbered
+pub mod Bytes
+pub mod Arrays
+pub mod Tables

@@ -1,6 +1,7 @@
 -- The table of cases holds, by computation. Assumes nothing.
 use mathlib.Core.Path.{_≡_, refl}
 use mathlib.Core.Bool.{true}
+use mathlib.Core.List.{_++_}
 use Rattle.lists.specs.Lists.{every}
 use Rattle.lists.specs.Pick.{pick}
 use Rattle.kinds.specs.Ranges.{between, dpmodGood}
@@ -36,7 +37,10 @@ use Rattle.rules.specs.Table.{holds}
 use Rattle.rules.specs.Wait.{waitVerdict, waitSet, waitDone}
 use Rattle.rules.specs.Waits.{waitAt}
 use Rattle.rules.specs.HandCases.{handCases}
+use Rattle.rules.specs.Examples.{examples}
+use Rattle.rules.specs.Spoils.{spoilCases}
+use Rattle.rules.specs.Rings.{bars, waitsFor}
 
-claim : every holds handCases ≡ true
-unfolding pick between dpmodGood abendVerdict abendDone admitted gateOf openGate through settled held newDispatching attachVerdict newTask attachDone clearVerdict clearDone coded writtenOn tooShort granted available control deqCode deqVerdict deqDone deqWritten detachVerdict detachDone chosen dispatchBody endVerdict endDone endAt areaStays waiterStays leftBy detached ended failing enqCode tooFewFree enqVerdict madeExclusive enqDone enqWritten ecbsGood wordOf onePostFewer unwaited comesTo woken posted place used mother chain below directSubtask freemainVerdict freemainDone freshStep freshOf getmainVerdict getmainDone legal namesGood postVerdict postDone climbs endsWith serviceOf serveOf soundTasks soundQueue soundEcbs soundAreas overGood runningGood soundStep areasFit areaShapeGood areaShapesGood areaOwnerGood areaOwnersGood areasRise areasApart ecbsFit waitersGood needsGood ecbWordGood ecbWordsGood zeroEcb queueFits entriesLive entriesOnce entryNamesGood waitGood waitsGood tasksFit jobStepGood motherGood mothersGood prioritiesGood taskEcbsGood endedTasksGood zeroTask freePlacesGood overStep rounded ownerIn areaAt oneHolder clearOf pagesApart apart permitted lowestFrom insertedIn sameArea holds waitVerdict waitSet waitDone waitAt
+claim : every holds (handCases ++ examples ++ spoilCases) ≡ true
+unfolding bars waitsFor pick between dpmodGood abendVerdict abendDone admitted gateOf openGate through settled held newDispatching attachVerdict newTask attachDone clearVerdict clearDone coded writtenOn tooShort granted available control deqCode deqVerdict deqDone deqWritten detachVerdict detachDone chosen dispatchBody endVerdict endDone endAt areaStays waiterStays leftBy detached ended failing enqCode tooFewFree enqVerdict madeExclusive enqDone enqWritten ecbsGood wordOf onePostFewer unwaited comesTo woken posted place used mother chain below directSubtask freemainVerdict freemainDone freshStep freshOf getmainVerdict getmainDone legal namesGood postVerdict postDone climbs endsWith serviceOf serveOf soundTasks soundQueue soundEcbs soundAreas overGood runningGood soundStep areasFit areaShapeGood areaShapesGood areaOwnerGood areaOwnersGood areasRise areasApart ecbsFit waitersGood needsGood ecbWordGood ecbWordsGood zeroEcb queueFits entriesLive entriesOnce entryNamesGood waitGood waitsGood tasksFit jobStepGood motherGood mothersGood prioritiesGood taskEcbsGood endedTasksGood zeroTask freePlacesGood overStep rounded ownerIn areaAt oneHolder clearOf pagesApart apart permitted lowestFrom insertedIn sameArea holds waitVerdict waitSet waitDone waitAt
 claim = refl

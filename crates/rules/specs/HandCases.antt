@@ -8,12 +8,8 @@ use Rattle.kinds.specs.declared.areas.Area.{Area}
 use Rattle.kinds.specs.declared.requests.Ret.the-variants.{None, Chng}
 use Rattle.kinds.specs.declared.requests.DeqRet.the-variants.{None as DeqNone}
 use Rattle.rules.specs.Names.{Resource}
-use Rattle.rules.specs.Steps.{Step}
 use Rattle.rules.specs.Fresh.{freshOf}
-use Rattle.rules.specs.Table.{attach, detach, enq, deq, wait, post, getmain, getmainIf, freemain, minus, named, shr, exc, Line, _⇒_∣_∣_∣_, Owners, Queued, Exclusive, Is, Priorities, Waiter, Word, Areas, Over, Unchanged, Case}
-
-abbrev pub fresh : ℕ → ℕ → Step
-fresh limit dispatching = freshOf limit dispatching .tables
+use Rattle.rules.specs.Table.{attach, detach, enq, deq, wait, post, getmain, getmainIf, freemain, minus, named, shr, exc, Line, _⇒_∣_∣_∣_, Owners, Queued, Exclusive, Is, Priorities, Waiter, Word, Areas, Over, Unchanged, Case, case}
 
 abbrev pub area : ℕ → ℕ → ℕ → ℕ → Area
 area start size subpool owner = record { start = record { 0 = start }; size = size; subpool = subpool; owner = record { 0 = owner } }
@@ -88,15 +84,12 @@ waitsForTwo =
     ∷ (post 1 3 9 ⇒ 0 ∣ 0 ∣ [] ∣ Is 2 Ready ∷ Word 2 0 ∷ Word 3 0x4000_0009 ∷ [])
     ∷ []
 
-abbrev case : Step → List Line → Case
-case s ls = record { from = s; lines = ls; spoils = [] }
-
 abbrev pub handCases : List Case
 handCases =
-    case (fresh 200 150) (fourAsk ++ changesAndLeaves)
-    ∷ case (fresh 200 150) (fourAsk ++ detachesC)
-    ∷ case (fresh 200 150) priorities
-    ∷ case (fresh 255 255) storage
-    ∷ case (fresh 255 255) wholeRegion
-    ∷ case (fresh 255 255) waitsForTwo
+    case (freshOf 200 150) (fourAsk ++ changesAndLeaves)
+    ∷ case (freshOf 200 150) (fourAsk ++ detachesC)
+    ∷ case (freshOf 200 150) priorities
+    ∷ case (freshOf 255 255) storage
+    ∷ case (freshOf 255 255) wholeRegion
+    ∷ case (freshOf 255 255) waitsForTwo
     ∷ []

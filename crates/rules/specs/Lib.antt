@@ -33,3 +33,5 @@ pub mod Demand
 pub mod Alike
 pub mod Table
 pub mod HandCases
+pub mod Examples
+pub mod Spoils

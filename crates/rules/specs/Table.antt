@@ -17,10 +17,11 @@ use Rattle.kinds.specs.declared.requests.Ret.{Ret}
 use Rattle.kinds.specs.declared.requests.DeqRet.{DeqRet}
 use Rattle.rules.specs.Names.{Resource, Ask, Names}
 use Rattle.rules.specs.Control.{Entry, queueOf, owners}
+use Rattle.rules.specs.Rings.{waitsFor}
 use Rattle.rules.specs.Family.{place, conditionOf}
 use Rattle.rules.specs.Events.{Ecbs, ecbAt, wordOf}
 use Rattle.rules.specs.Storage.{sameArea}
-use Rattle.rules.specs.Steps.{Step, Served}
+use Rattle.rules.specs.Steps.{Step, Outcome, Served}
 use Rattle.rules.specs.Sound.{soundStep}
 use Rattle.rules.specs.Serve.{Asked, serveOf}
 use Rattle.rules.specs.Reading.{Reading, reads}
@@ -102,6 +103,11 @@ withCount n a = record {
   area = a .area;
 }
 
+-- f k, f (k + 1) and so on, n of them
+abbrev pub counted : {A : Type 0} → (ℕ → A) → ℕ → ℕ → List A
+counted f k zero = []
+counted f k (suc n) = f k ∷ counted f (suc k) n
+
 -- NAMES: eight bytes of the one number, and a minor part
 abbrev pub named : ℕ → List ℕ → Resource
 named major minor = record { major = replicate 8 major; minor = minor }
@@ -118,6 +124,9 @@ pub data Sight : Type 0 where
   Owners : Resource → List ℕ → Sight
   Queued : Resource → List ℕ → Sight
   Exclusive : Resource → List ℕ → Sight
+  -- task a waits for task b, or does not
+  WaitsFor : ℕ → ℕ → Sight
+  Passes : ℕ → ℕ → Sight
   -- a task's condition, its limit and dispatching priority
   Is : ℕ → Condition → Sight
   Priorities : ℕ → ℕ → ℕ → Sight
@@ -138,6 +147,8 @@ abbrev seen : Step → Step → Sight → Bool
 seen s t (Owners n ts) = sameBytes (tasksOf (owners n (t .queue))) ts
 seen s t (Queued n ts) = sameBytes (tasksOf (queueOf n (t .queue))) ts
 seen s t (Exclusive n ts) = sameBytes (tasksOf (keep (λ (e : Entry). e .exclusive) (queueOf n (t .queue)))) ts
+seen s t (WaitsFor a b) = waitsFor (t .queue) a b
+seen s t (Passes a b) = not (waitsFor (t .queue) a b)
 seen s t (Is k c) = sameCondition (conditionOf (t .tasks) k) c
 seen s t (Priorities k l d) = eqb (place (t .tasks) k .limit) l && eqb (place (t .tasks) k .dispatching) d
 seen s t (Waiter e w) = eqb (ecbAt (t .ecbs) e .waiter .0) w
@@ -158,6 +169,16 @@ infix 1 _⇒_∣_∣_∣_
 abbrev pub _⇒_∣_∣_∣_ : Asked → ℕ → ℕ → List ℕ → List Sight → Line
 a ⇒ n ∣ v ∣ cs ∣ l = record { asked = a; number = n; besides = v; codes = cs; sights = l }
 
+-- a request that is done, with this besides and no codes
+infix 70 _gives_
+abbrev pub _gives_ : Asked → ℕ → Line
+a gives v = a ⇒ 0 ∣ v ∣ [] ∣ []
+
+-- a request that is refused with this number, and changes nothing
+infix 70 _refused_
+abbrev pub _refused_ : Asked → ℕ → Line
+a refused n = a ⇒ n ∣ 0 ∣ [] ∣ Unchanged ∷ []
+
 abbrev answers : Line → Served Step → Bool
 answers l o =
     eqb (o .outcome .number) (l .number) && (eqb (o .outcome .besides) (l .besides)
@@ -169,9 +190,10 @@ lineHolds s l r o =
     answers l o && (every (seen s (o .outcome .tables)) (l .sights) && (soundStep (o .outcome .tables)
     && sameBy sameEntry (o .outcome .tables .queue) (r .queue)))
 
--- CASES: lines from a step on, and then ways of spoiling the step that they leave
+-- CASES: a start and what it answers, lines from there on, and then ways of spoiling the step that they leave
 pub record Case : Type 0 where
-  pub from : Step
+  pub start : Outcome Step
+  pub answer : ℕ
   pub lines : List Line
   pub spoils : List (Step → Step)
 
@@ -187,4 +209,10 @@ holdsFrom s r (l ∷ ls) spoils =
     && holdsFrom (serveOf s (l .asked) .outcome .tables) (reads r (turnOf (l .asked) (serveOf s (l .asked) .outcome))) ls spoils
 
 unfoldable pub holds : Case → Bool
-holds k = holdsFrom (k .from) (record { links = []; queue = k .from .queue }) (k .lines) (k .spoils)
+holds k =
+    (eqb (k .start .number) (k .answer) && soundStep (k .start .tables))
+    && holdsFrom (k .start .tables) (record { links = []; queue = k .start .tables .queue }) (k .lines) (k .spoils)
+
+-- a case that begins well and spoils nothing
+abbrev pub case : Outcome Step → List Line → Case
+case o ls = record { start = o; answer = 0; lines = ls; spoils = [] }

@@ -1,7 +1,7 @@
 -- A place of the task table, and what a task's condition says. Assumes nothing.
 use mathlib.Core.Bool.{Bool, true, false}
 use Rattle.kinds.specs.declared.tasks.Task.{Task}
-use Rattle.kinds.specs.declared.tasks.MaybeEcb.the-variants.{NoEcb, Named}
+use Rattle.kinds.specs.declared.tasks.MaybeEcb.the-variants.{NoEcb}
 use Rattle.kinds.specs.declared.tasks.Condition.{Condition}
 use Rattle.kinds.specs.declared.tasks.Condition.the-variants.{Free, Ready, ResourceWait, EcbWait, Ended}
 

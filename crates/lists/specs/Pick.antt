@@ -16,17 +16,17 @@ unfolding pick
 pick-false t a b e = rw e
 
 -- a call's result r stands for the test t that its contract names
-pub held : (r t : Bool) → r ≡ t → r ≡ true → t ≡ true
-held r t e h = sym e ∙ h
+pub test-held : (r t : Bool) → r ≡ t → r ≡ true → t ≡ true
+test-held r t e h = sym e ∙ h
 
-pub failed : (r t : Bool) → r ≡ t → r ≡ false → t ≡ false
-failed r t e h = sym e ∙ h
+pub test-failed : (r t : Bool) → r ≡ t → r ≡ false → t ≡ false
+test-failed r t e h = sym e ∙ h
 
-pub held-not : (r t : Bool) → r ≡ t → not r ≡ false → t ≡ true
-held-not r t e h = sym e ∙ not-false r h
+pub test-held-not : (r t : Bool) → r ≡ t → not r ≡ false → t ≡ true
+test-held-not r t e h = sym e ∙ not-false r h
 
-pub failed-not : (r t : Bool) → r ≡ t → not r ≡ true → t ≡ false
-failed-not r t e h = sym e ∙ not-true r h
+pub test-failed-not : (r t : Bool) → r ≡ t → not r ≡ true → t ≡ false
+test-failed-not r t e h = sym e ∙ not-true r h
 
 -- an answer s to a choice
 pub on-true : {A : Type 0} (t : Bool) (s a b : A) → t ≡ true → s ≡ a → s ≡ pick t a b
@@ -37,7 +37,7 @@ pub on-false : {A : Type 0} (t : Bool) (s a b : A) → t ≡ false → s ≡ b �
 unfolding pick
 on-false t s a b e h = rw e h
 
-pub ruleset tested = (held, failed, held-not, failed-not, lt-ltb, le-ltb, le-leb, lt-leb, eq-eqb, ne-eqb)
+pub ruleset tested = (test-held, test-failed, test-held-not, test-failed-not, lt-ltb, le-ltb, le-leb, lt-leb, eq-eqb, ne-eqb)
 
 pub ruleset chosen = (on-true, on-false, tested)
 

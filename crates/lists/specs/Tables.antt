@@ -1,10 +1,10 @@
 -- A packed table: rows, then zero rows up to its size. It keeps a list of what its rows show. Assumes nothing.
 use mathlib.Core.Path.{_≡_, refl, sym, ap, ap₂, _∙_}
-use mathlib.Core.Bool.{Bool, true, false, cond, _&&_}
-use mathlib.Core.List.{List, [], _∷_, _++_, map, map-append, append-nil}
-use Prim.Native.Nat.{ℕ, zero, suc, _+_, _-_, _≤_, _<_}
+use mathlib.Core.Bool.{Bool, true}
+use mathlib.Core.List.{List, [], _∷_, _++_, map, map-append}
+use Prim.Native.Nat.{ℕ, suc, _+_, _-_, _≤_, _<_}
 use native.Mathlib.Omega.{arith}
-use lib.ListN.{length, getD, take, drop, set, replicate, length-map, length-append, length-take, length-drop, take-append-drop}
+use lib.ListN.{length, take, drop, set, replicate, length-map, length-append, take-append-drop}
 use lib.Seq.{set-append-seam, append-snoc, length-take-le, take-at}
 use Rattle.lists.specs.Lists.{every, keep}
 use Rattle.lists.specs.Bools.{both}

@@ -1,46 +1,54 @@
--- The table of cases holds, by computation. Assumes nothing.
+-- THE CLAIM about the rules: every case of the table holds. It is proved by computing, with every definition open. Assumes nothing.
 use mathlib.Core.Path.{_≡_, refl}
 use mathlib.Core.Bool.{true}
 use mathlib.Core.List.{_++_}
 use Rattle.lists.specs.Lists.{every}
 use Rattle.lists.specs.Pick.{pick}
 use Rattle.kinds.specs.Ranges.{between, dpmodGood}
-use Rattle.rules.specs.Abend.{abendVerdict, abendDone}
-use Rattle.rules.specs.Admission.{admitted, gateOf, openGate, through, settled}
-use Rattle.rules.specs.Attach.{held, newDispatching, attachVerdict, newTask, attachDone}
-use Rattle.rules.specs.Clear.{clearVerdict, clearDone}
-use Rattle.rules.specs.Codes.{coded, writtenOn, tooShort}
-use Rattle.rules.specs.Control.{granted, available, control}
-use Rattle.rules.specs.Deq.{deqCode, deqVerdict, deqDone, deqWritten}
-use Rattle.rules.specs.Detach.{detachVerdict, detachDone}
-use Rattle.rules.specs.Dispatch.{chosen, dispatchBody}
-use Rattle.rules.specs.End.{endVerdict, endDone}
-use Rattle.rules.specs.Ending.{endAt, areaStays, waiterStays, leftBy, detached, ended, failing}
-use Rattle.rules.specs.Enq.{enqCode, tooFewFree, enqVerdict, madeExclusive, enqDone, enqWritten}
-use Rattle.rules.specs.Events.{ecbsGood, wordOf, onePostFewer, unwaited, comesTo, woken, posted}
-use Rattle.rules.specs.Family.{place, used, mother, chain, below, directSubtask}
-use Rattle.rules.specs.Freemain.{freemainVerdict, freemainDone}
-use Rattle.rules.specs.Fresh.{freshStep, freshOf}
-use Rattle.rules.specs.Getmain.{getmainVerdict, getmainDone}
 use Rattle.rules.specs.Names.{legal, namesGood}
-use Rattle.rules.specs.Post.{postVerdict, postDone}
-use Rattle.rules.specs.Reading.{climbs, endsWith}
-use Rattle.rules.specs.Serve.{serviceOf, serveOf}
-use Rattle.rules.specs.Sound.{soundTasks, soundQueue, soundEcbs, soundAreas, overGood, runningGood, soundStep}
-use Rattle.rules.specs.SoundAreas.{areasFit, areaShapeGood, areaShapesGood, areaOwnerGood, areaOwnersGood, areasRise, areasApart}
-use Rattle.rules.specs.SoundEcbs.{ecbsFit, waitersGood, needsGood, ecbWordGood, ecbWordsGood, zeroEcb}
-use Rattle.rules.specs.SoundQueue.{queueFits, entriesLive, entriesOnce, entryNamesGood, waitGood, waitsGood}
-use Rattle.rules.specs.SoundTasks.{tasksFit, jobStepGood, motherGood, mothersGood, prioritiesGood, taskEcbsGood, endedTasksGood, zeroTask, freePlacesGood}
+use Rattle.rules.specs.Control.{granted, available, control}
+use Rattle.rules.specs.Rings.{bars, waitsFor}
 use Rattle.rules.specs.Steps.{overStep}
-use Rattle.rules.specs.Storage.{rounded, ownerIn, areaAt, oneHolder, clearOf, pagesApart, apart, permitted, lowestFrom, insertedIn, sameArea}
-use Rattle.rules.specs.Table.{holds}
-use Rattle.rules.specs.Wait.{waitVerdict, waitSet, waitDone}
+use Rattle.rules.specs.Family.{place, used, mother, chain, below, isSubtaskOf}
 use Rattle.rules.specs.Waits.{waitAt}
+use Rattle.rules.specs.Events.{ecbsGood, wordOf, onePostFewer, unwaited, bitsLeft, woken, posted}
+use Rattle.rules.specs.Ending.{endAt, areaStays, waiterStays, leftBy, detached, ended, failing}
+use Rattle.rules.specs.Admission.{admitted, gateOf, openGate, through, settled}
+use Rattle.rules.specs.Fresh.{freshStep, freshOf}
+use Rattle.rules.specs.Attach.{heldTo, newDispatching, attachVerdict, newTask, attachDone}
+use Rattle.rules.specs.Detach.{detachVerdict, detachDone}
+use Rattle.rules.specs.End.{endVerdict, endDone}
+use Rattle.rules.specs.Abend.{abendVerdict, abendDone}
+use Rattle.rules.specs.Codes.{coded, writtenOn, tooShort}
+use Rattle.rules.specs.Enq.{enqCode, tooFewFree, enqVerdict, madeExclusive, enqDone, enqWritten}
+use Rattle.rules.specs.Deq.{deqCode, deqVerdict, deqDone, deqWritten}
+use Rattle.rules.specs.Wait.{waitVerdict, waitSet, waitDone}
+use Rattle.rules.specs.Post.{postVerdict, postDone}
+use Rattle.rules.specs.Clear.{clearVerdict, clearDone}
+use Rattle.rules.specs.Storage.{rounded, ownerIn, areaAt, oneHolder, bytesApart, pagesApart, apart, permitted, lowestFrom, insertedIn, sameArea}
+use Rattle.rules.specs.Getmain.{getmainVerdict, getmainDone}
+use Rattle.rules.specs.Freemain.{freemainVerdict, freemainDone}
+use Rattle.rules.specs.Dispatch.{dispatched, dispatchBody}
+use Rattle.rules.specs.SoundTasks.{tasksFit, jobStepGood, motherGood, mothersGood, prioritiesGood, taskEcbsGood, endedTasksGood, zeroTask, freePlacesGood}
+use Rattle.rules.specs.SoundQueue.{queueFits, entriesLive, entriesOnce, entryNamesGood, waitGood, waitsGood}
+use Rattle.rules.specs.SoundEcbs.{ecbsFit, waitersGood, needsGood, ecbWordGood, ecbWordsGood, zeroEcb}
+use Rattle.rules.specs.SoundAreas.{areasFit, areaShapeGood, areaShapesGood, areaOwnerGood, areaOwnersGood, areasRise, areasApart}
+use Rattle.rules.specs.Sound.{soundTasks, soundQueue, soundEcbs, soundAreas, overGood, runningGood, soundStep}
+use Rattle.rules.specs.Serve.{serviceOf, serveOf}
+use Rattle.rules.specs.Reading.{climbs, endsWith}
+use Rattle.rules.specs.Table.{holds}
 use Rattle.rules.specs.HandCases.{handCases}
 use Rattle.rules.specs.Examples.{examples}
 use Rattle.rules.specs.Spoils.{spoilCases}
-use Rattle.rules.specs.Rings.{bars, waitsFor}
 
-claim : every holds (handCases ++ examples ++ spoilCases) ≡ true
-unfolding bars waitsFor pick between dpmodGood abendVerdict abendDone admitted gateOf openGate through settled held newDispatching attachVerdict newTask attachDone clearVerdict clearDone coded writtenOn tooShort granted available control deqCode deqVerdict deqDone deqWritten detachVerdict detachDone chosen dispatchBody endVerdict endDone endAt areaStays waiterStays leftBy detached ended failing enqCode tooFewFree enqVerdict madeExclusive enqDone enqWritten ecbsGood wordOf onePostFewer unwaited comesTo woken posted place used mother chain below directSubtask freemainVerdict freemainDone freshStep freshOf getmainVerdict getmainDone legal namesGood postVerdict postDone climbs endsWith serviceOf serveOf soundTasks soundQueue soundEcbs soundAreas overGood runningGood soundStep areasFit areaShapeGood areaShapesGood areaOwnerGood areaOwnersGood areasRise areasApart ecbsFit waitersGood needsGood ecbWordGood ecbWordsGood zeroEcb queueFits entriesLive entriesOnce entryNamesGood waitGood waitsGood tasksFit jobStepGood motherGood mothersGood prioritiesGood taskEcbsGood endedTasksGood zeroTask freePlacesGood overStep rounded ownerIn areaAt oneHolder clearOf pagesApart apart permitted lowestFrom insertedIn sameArea holds waitVerdict waitSet waitDone waitAt
+pub claim : every holds (handCases ++ examples ++ spoilCases) ≡ true
+unfolding pick between dpmodGood legal namesGood granted available control bars waitsFor overStep place used mother chain below isSubtaskOf waitAt
+    ecbsGood wordOf onePostFewer unwaited bitsLeft woken posted endAt areaStays waiterStays leftBy detached ended failing admitted gateOf openGate
+    through settled freshStep freshOf heldTo newDispatching attachVerdict newTask attachDone detachVerdict detachDone endVerdict endDone abendVerdict
+    abendDone coded writtenOn tooShort enqCode tooFewFree enqVerdict madeExclusive enqDone enqWritten deqCode deqVerdict deqDone deqWritten
+    waitVerdict waitSet waitDone postVerdict postDone clearVerdict clearDone rounded ownerIn areaAt oneHolder bytesApart pagesApart apart permitted
+    lowestFrom insertedIn sameArea getmainVerdict getmainDone freemainVerdict freemainDone dispatched dispatchBody tasksFit jobStepGood motherGood
+    mothersGood prioritiesGood taskEcbsGood endedTasksGood zeroTask freePlacesGood queueFits entriesLive entriesOnce entryNamesGood waitGood waitsGood
+    ecbsFit waitersGood needsGood ecbWordGood ecbWordsGood zeroEcb areasFit areaShapeGood areaShapesGood areaOwnerGood areaOwnersGood areasRise
+    areasApart soundTasks soundQueue soundEcbs soundAreas overGood runningGood soundStep serviceOf serveOf climbs endsWith holds
 claim = refl

@@ -11,10 +11,10 @@ use Rattle.kinds.specs.declared.replies.Gate.the-variants.{Open, Shut}
 use Rattle.kinds.specs.declared.replies.Verdict.{Verdict}
 use Rattle.kinds.specs.declared.replies.Verdict.the-variants.{Go, Refuse, Fail}
 use Rattle.rules.specs.Family.{conditionOf}
-use Rattle.rules.specs.Steps.{Step, Outcome, Served, refused}
+use Rattle.rules.specs.Steps.{Step, Outcome, refused}
 use Rattle.rules.specs.Ending.{failing}
 
--- "108 the step is over, 102 the caller isn't a live task, 103 the caller waits"
+-- 108: "the step is over"; 102: "the caller isn't a live task"; 103: "the caller waits"
 unfoldable pub admitted : Bool → Bool → Bool → Gate
 admitted over live waiting =
     pick over (Shut StepOver)
@@ -29,6 +29,10 @@ gateOf s c = admitted (s .over) (isLive (conditionOf (s .tasks) (c .0))) (waits 
 -- the gate of DISPATCH, which names no caller
 unfoldable pub openGate : Step → Gate
 openGate s = admitted (s .over) true false
+
+abbrev pub isOpen : Gate → Bool
+isOpen Open = true
+isOpen (Shut why) = false
 
 -- a gate that is shut refuses, and else the service's own outcome comes back
 unfoldable pub through : Gate → Step → Outcome Step → Outcome Step

@@ -16,7 +16,7 @@ use Rattle.kinds.specs.declared.tasks.Condition.the-variants.{Free, Ready, Reso
 use Rattle.rules.specs.Family.{place, withPlace, conditionOf}
 use Rattle.rules.specs.Steps.{Step, withEcbs}
 
--- the ECBs beside a request: the count as it came, and what stands within it
+-- the ECBs beside a request: the count as it came, and what stands within it, as many as the count where that is 1 to 16
 pub record Ecbs : Type 0 where
   pub count : ℕ
   pub ecbs : List ℕ
@@ -58,12 +58,12 @@ onePostFewer Ended = Ended
 unfoldable pub unwaited : ℕ → Ecb → Ecb
 unwaited w e = pick (eqb (e .waiter .0) w) (withWaiter e 0) e
 
--- task w comes to this condition; if it is ready, "the wait bits it set elsewhere are cleared"
-unfoldable pub comesTo : Step → ℕ → Condition → Step
-comesTo s w k =
-    pick (isReady k)
-    (withEcbs s (withPlace (s .tasks) w (withCondition (place (s .tasks) w) k)) (map (unwaited w) (s .ecbs)))
-    (withEcbs s (withPlace (s .tasks) w (withCondition (place (s .tasks) w) k)) (s .ecbs))
+-- if task w, which comes to this condition, is ready, "the wait bits it set elsewhere are cleared"
+unfoldable pub bitsLeft : ℕ → Condition → List Ecb → List Ecb
+bitsLeft w k es = pick (isReady k) (map (unwaited w) es) es
+
+abbrev pub comesTo : Step → ℕ → Condition → Step
+comesTo s w k = withEcbs s (withPlace (s .tasks) w (withCondition (place (s .tasks) w) k)) (bitsLeft w k (s .ecbs))
 
 -- "the waiter, if any, needs one fewer"
 unfoldable pub woken : Step → ℕ → Step

@@ -1,16 +1,14 @@
 -- WORKED EXAMPLES of what the starred cases do not touch: every refusal, every program error, codes, endings, waits. Assumes nothing.
-use Prim.Native.Nat.{ℕ, zero, suc, _+_, _*_}
-use mathlib.Core.Bool.{Bool, true, false}
-use mathlib.Core.List.{List, [], _∷_, _++_, map}
+use Prim.Native.Nat.{ℕ, _+_, _*_}
+use mathlib.Core.Bool.{true}
+use mathlib.Core.List.{List, [], _∷_, _++_}
 use lib.IntN.{pos}
 use lib.ListN.{replicate}
 use Rattle.kinds.specs.declared.tasks.MaybeEcb.the-variants.{NoEcb}
 use Rattle.kinds.specs.declared.tasks.Condition.the-variants.{Free, Ready, ResourceWait, EcbWait, Ended}
-use Rattle.kinds.specs.declared.areas.Area.{Area}
 use Rattle.kinds.specs.declared.requests.Ret.the-variants.{None, Test, Use, Have, Chng}
 use Rattle.kinds.specs.declared.requests.DeqRet.the-variants.{None as DeqNone, Have as DeqHave}
-use Rattle.rules.specs.Names.{Resource, Ask}
-use Rattle.rules.specs.Control.{Entry}
+use Rattle.rules.specs.Names.{Resource}
 use Rattle.rules.specs.Steps.{Step, withQueue, withAreas, done}
 use Rattle.rules.specs.Fresh.{freshStep, freshOf}
 use Rattle.rules.specs.Table.{attach, detach, end, abend, abendStep, enq, deq, wait, post, clear, getmain, getmainIf, freemain, dispatch, withCount, minus, ecb, counted, named, shr, exc, Line, _⇒_∣_∣_∣_, _gives_, _refused_, Owners, Queued, Exclusive, WaitsFor, Passes, Is, Priorities, Waiter, Word, Areas, Over, Unchanged, Case, case}
@@ -249,14 +247,16 @@ areasFill =
 abbrev pages : List Line
 pages =
     getmain 1 8 1 gives 0
-    ∷ getmain 1 8 2 gives 4096
-    ∷ getmain 1 4090 1 gives 8192
-    ∷ getmain 1 8 1 gives 8
-    ∷ freemain 1 4096 8 2 gives 0
+    ∷ getmain 1 1000 2 gives 4096
+    ∷ getmain 1 8 2 gives 5096
+    ∷ freemain 1 4096 1000 2 gives 0
+    ∷ getmain 1 4200 1 gives 8192
+    ∷ getmain 1 4088 1 gives 8
+    ∷ freemain 1 5096 8 2 gives 0
     ∷ getmain 1 8 3 gives 4096
     ∷ freemain 1 4096 8 3 gives 0
-    ∷ getmain 1 8000 1 gives 16
-    ∷ (freemain 1 16 4000 1 ⇒ 206 ∣ 0 ∣ [] ∣ Over 206 ∷ [])
+    ∷ getmain 1 4096 1 gives 4096
+    ∷ (freemain 1 8192 4000 1 ⇒ 206 ∣ 0 ∣ [] ∣ Over 206 ∷ [])
     ∷ []
 
 -- a fresh start out of range answers 101 and leaves a step over with code 0

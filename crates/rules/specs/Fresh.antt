@@ -1,11 +1,11 @@
 -- FRESH START. Assumes nothing.
 use Prim.Native.Nat.{ℕ}
-use mathlib.Core.Bool.{Bool, false}
-use mathlib.Core.List.{List, [], _∷_}
+use mathlib.Core.Bool.{false}
+use mathlib.Core.List.{[]}
 use lib.Dec.{leb}
 use lib.ListN.{replicate}
 use Rattle.lists.specs.Pick.{pick}
-use Rattle.kinds.specs.Limits.{highestTask, allEcbs}
+use Rattle.kinds.specs.Limits.{jobStepTask, highestTask, allEcbs}
 use Rattle.kinds.specs.Ranges.{priorityGood}
 use Rattle.kinds.specs.Tasks.{noTask}
 use Rattle.kinds.specs.Ecbs.{noEcb}
@@ -25,7 +25,7 @@ unfoldable pub freshStep : ℕ → ℕ → Step
 freshStep limit dispatching = record {
   over = false;
   code = 0;
-  tasks = withPlace (replicate highestTask noTask) 1 (firstTask limit dispatching);
+  tasks = withPlace (replicate highestTask noTask) jobStepTask (firstTask limit dispatching);
   queue = [];
   ecbs = replicate allEcbs noEcb;
   areas = [];

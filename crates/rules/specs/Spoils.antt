@@ -4,15 +4,12 @@ use mathlib.Core.Bool.{Bool, true, false}
 use mathlib.Core.List.{List, [], _∷_, _++_}
 use lib.IntN.{pos}
 use lib.ListN.{drop, replicate, set}
-use Rattle.kinds.specs.declared.tasks.Task.{Task}
 use Rattle.kinds.specs.declared.tasks.MaybeEcb.{MaybeEcb}
 use Rattle.kinds.specs.declared.tasks.MaybeEcb.the-variants.{NoEcb}
 use Rattle.kinds.specs.declared.tasks.Condition.{Condition}
 use Rattle.kinds.specs.declared.tasks.Condition.the-variants.{Free, Ready, ResourceWait, EcbWait, Ended}
-use Rattle.kinds.specs.declared.ecbs.Ecb.{Ecb}
 use Rattle.kinds.specs.declared.requests.Ret.the-variants.{None}
 use Rattle.rules.specs.Names.{Resource}
-use Rattle.rules.specs.Control.{Entry}
 use Rattle.rules.specs.Family.{withPlace}
 use Rattle.rules.specs.Steps.{Step, withTasks, withQueue, withEcbs, withAreas}
 use Rattle.rules.specs.Fresh.{freshOf}

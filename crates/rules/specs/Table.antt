@@ -5,9 +5,9 @@ use mathlib.Core.List.{List, [], _∷_, _++_, map}
 use lib.Dec.{eqb}
 use lib.IntN.{ℤ, pos, negℤ}
 use lib.ListN.{length, drop, replicate}
-use Rattle.lists.specs.Lists.{every, keep, none, alike, sameBytes, sameBy}
+use Rattle.lists.specs.Lists.{every, keep, sameBytes, sameBy}
 use Rattle.kinds.specs.declared.tasks.MaybeEcb.{MaybeEcb}
-use Rattle.kinds.specs.declared.tasks.MaybeEcb.the-variants.{NoEcb, Named}
+use Rattle.kinds.specs.declared.tasks.MaybeEcb.the-variants.{Named}
 use Rattle.kinds.specs.declared.tasks.Condition.{Condition}
 use Rattle.kinds.specs.declared.areas.Area.{Area}
 use Rattle.kinds.specs.declared.numbers.TaskNumber.{TaskNumber}
@@ -15,11 +15,11 @@ use Rattle.kinds.specs.declared.requests.Request.{Request}
 use Rattle.kinds.specs.declared.requests.Request.the-variants.{Attach, Detach, End, Abend, Enq, Deq, Wait, Post, Clear, Getmain, Freemain, Dispatch}
 use Rattle.kinds.specs.declared.requests.Ret.{Ret}
 use Rattle.kinds.specs.declared.requests.DeqRet.{DeqRet}
-use Rattle.rules.specs.Names.{Resource, Ask, Names}
+use Rattle.rules.specs.Names.{Resource, Ask}
 use Rattle.rules.specs.Control.{Entry, queueOf, owners}
 use Rattle.rules.specs.Rings.{waitsFor}
 use Rattle.rules.specs.Family.{place, conditionOf}
-use Rattle.rules.specs.Events.{Ecbs, ecbAt, wordOf}
+use Rattle.rules.specs.Events.{ecbAt, wordOf}
 use Rattle.rules.specs.Storage.{sameArea}
 use Rattle.rules.specs.Steps.{Step, Outcome, Served}
 use Rattle.rules.specs.Sound.{soundStep}

@@ -11,7 +11,7 @@ use Rattle.rules.specs.Rings.{bars, waitsFor}
 use Rattle.rules.specs.Steps.{overStep}
 use Rattle.rules.specs.Family.{place, used, mother, chain, below, isSubtaskOf}
 use Rattle.rules.specs.Waits.{waitAt}
-use Rattle.rules.specs.Events.{ecbsGood, wordOf, onePostFewer, unwaited, bitsLeft, woken, posted}
+use Rattle.rules.specs.Events.{ecbsGood, wordOf, onePostFewer, unwaited, bitsLeft, woken, signalled}
 use Rattle.rules.specs.Ending.{endAt, areaStays, waiterStays, leftBy, detached, ended, failing}
 use Rattle.rules.specs.Admission.{admitted, gateOf, openGate, through, settled}
 use Rattle.rules.specs.Fresh.{freshStep, freshOf}
@@ -43,7 +43,7 @@ use Rattle.rules.specs.Spoils.{spoilCases}
 
 pub claim : every holds (handCases ++ examples ++ spoilCases) ≡ true
 unfolding pick between dpmodGood legal namesGood granted available control bars waitsFor overStep place used mother chain below isSubtaskOf waitAt
-    ecbsGood wordOf onePostFewer unwaited bitsLeft woken posted endAt areaStays waiterStays leftBy detached ended failing admitted gateOf openGate
+    ecbsGood wordOf onePostFewer unwaited bitsLeft woken signalled endAt areaStays waiterStays leftBy detached ended failing admitted gateOf openGate
     through settled freshStep freshOf heldTo newDispatching attachVerdict newTask attachDone detachVerdict detachDone endVerdict endDone abendVerdict
     abendDone coded writtenOn tooShort enqCode tooFewFree enqVerdict madeExclusive enqDone enqWritten deqCode deqVerdict deqDone deqWritten
     waitVerdict waitSet waitDone postVerdict postDone clearVerdict clearDone rounded ownerIn areaAt oneHolder bytesApart pagesApart apart permitted

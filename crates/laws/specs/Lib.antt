@@ -1,2 +1,6 @@
 pub mod Places
 pub mod Control
+pub mod Running
+pub mod Conditions
+pub mod Blocks
+pub mod Posts

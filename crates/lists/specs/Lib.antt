@@ -4,6 +4,7 @@ pub mod Bools
 pub mod Every
 pub mod Keeping
 pub mod Numbered
+pub mod Setting
 pub mod Bytes
 pub mod Arrays
 pub mod Tables

@@ -11,7 +11,7 @@ use Rattle.kinds.specs.declared.requests.DeqRet.the-variants.{None as DeqNone, 
 use Rattle.rules.specs.Names.{Resource}
 use Rattle.rules.specs.Steps.{Step, withQueue, withAreas, done}
 use Rattle.rules.specs.Fresh.{freshStep, freshOf}
-use Rattle.rules.specs.Table.{attach, detach, end, abend, abendStep, enq, deq, wait, post, clear, getmain, getmainIf, freemain, dispatch, withCount, minus, ecb, counted, named, shr, exc, Line, _⇒_∣_∣_∣_, _gives_, _refused_, Owners, Queued, Exclusive, WaitsFor, Passes, Is, Priorities, Waiter, Word, Areas, Over, Unchanged, Case, case}
+use Rattle.rules.specs.Table.{attach, detach, end, abend, abendStep, enq, deq, wait, post, clear, getmain, getmainIf, freemain, dispatch, withCount, minus, ecb, counted, named, shr, exc, Line, _⇒_∣_∣_∣_, _gives_, _refused_, Owners, Queued, Exclusive, WaitsFor, Passes, Is, Priorities, Place, rowOf, Waiter, Word, Areas, Over, Unchanged, Case, case}
 use Rattle.rules.specs.HandCases.{area, x}
 
 abbrev y : Resource
@@ -27,7 +27,8 @@ outOfRange =
     ∷ attach 1 0 (pos 256) NoEcb refused 101
     ∷ attach 1 0 (minus 256) NoEcb refused 101
     ∷ attach 1 0 (pos 0) (ecb 64) refused 101
-    ∷ (attach 1 255 (minus 255) (ecb 63) ⇒ 0 ∣ 2 ∣ [] ∣ Priorities 2 0 0 ∷ [])
+    ∷ (attach 1 255 (minus 255) (ecb 63) ⇒ 0 ∣ 2 ∣ [] ∣ Place 2 (rowOf Ready 1 0 0 (ecb 63)) ∷ [])
+    ∷ (attach 1 0 (pos 255) NoEcb ⇒ 0 ∣ 3 ∣ [] ∣ Place 3 (rowOf Ready 1 200 200 NoEcb) ∷ [])
     ∷ detach 1 0 refused 101
     ∷ detach 1 33 refused 101
     ∷ end 1 4096 refused 101
@@ -41,9 +42,12 @@ outOfRange =
     ∷ wait 1 0 (3 ∷ 64 ∷ []) refused 101
     ∷ wait 1 0 (3 ∷ 4 ∷ 3 ∷ []) refused 101
     ∷ withCount 17 (wait 1 0 (3 ∷ [])) refused 101
+    ∷ (wait 1 0 (counted (λ k. k) 1 16) ⇒ 0 ∣ 0 ∣ [] ∣ Unchanged ∷ [])
+    ∷ wait 1 0 (counted (λ k. k) 1 17) refused 101
     ∷ getmain 1 0 0 refused 101
     ∷ getmain 1 131073 0 refused 101
     ∷ getmain 1 8 128 refused 101
+    ∷ getmain 1 8 127 gives 0
     ∷ freemain 1 131072 8 0 refused 101
     ∷ freemain 1 0 0 0 refused 101
     ∷ freemain 1 0 8 128 refused 101
@@ -86,6 +90,8 @@ codes =
     ∷ (enq 1 Use 3 (exc x ∷ shr y ∷ []) ⇒ 0 ∣ 0 ∣ 0 ∷ 0 ∷ [] ∣ Owners x (1 ∷ []) ∷ Owners y (1 ∷ []) ∷ [])
     ∷ (enq 1 Test 4 (shr x ∷ shr y ∷ shr z ∷ []) ⇒ 4 ∣ 0 ∣ 8 ∷ 8 ∷ 0 ∷ [] ∣ Unchanged ∷ [])
     ∷ (enq 2 Test 3 (shr x ∷ shr y ∷ exc z ∷ []) ⇒ 4 ∣ 0 ∣ 4 ∷ 0 ∷ 0 ∷ [] ∣ Unchanged ∷ [])
+    ∷ (enq 2 Test 1 (exc y ∷ []) ⇒ 4 ∣ 0 ∣ 4 ∷ [] ∣ Unchanged ∷ [])
+    ∷ (enq 2 Chng 1 (exc x ∷ []) ⇒ 4 ∣ 0 ∣ 8 ∷ [] ∣ Unchanged ∷ [])
     ∷ (enq 2 Use 3 (shr y ∷ exc z ∷ shr x ∷ []) ⇒ 4 ∣ 0 ∣ 0 ∷ 0 ∷ 4 ∷ [] ∣ Unchanged ∷ [])
     ∷ (enq 1 Have 2 (exc z ∷ exc x ∷ []) ⇒ 4 ∣ 0 ∣ 0 ∷ 8 ∷ [] ∣ Unchanged ∷ [])
     ∷ (enq 1 Chng 3 (exc x ∷ exc y ∷ exc z ∷ []) ⇒ 4 ∣ 0 ∣ 0 ∷ 0 ∷ 8 ∷ [] ∣ Unchanged ∷ [])
@@ -105,6 +111,7 @@ twoNames =
     ∷ enq 1 None 0 (exc x ∷ []) gives 0
     ∷ enq 2 None 0 (exc y ∷ []) gives 0
     ∷ (enq 3 None 0 (shr x ∷ shr y ∷ []) ⇒ 0 ∣ 0 ∣ [] ∣ Is 3 ResourceWait ∷ [])
+    ∷ post 3 64 0 refused 103
     ∷ (deq 1 DeqNone 0 (x ∷ []) ⇒ 0 ∣ 0 ∣ [] ∣ Owners x (3 ∷ []) ∷ Is 3 ResourceWait ∷ [])
     ∷ (deq 2 DeqNone 0 (y ∷ []) ⇒ 0 ∣ 0 ∣ [] ∣ Owners y (3 ∷ []) ∷ Is 3 Ready ∷ [])
     ∷ []
@@ -114,10 +121,11 @@ abbrev errors : List Line
 errors =
     attach 1 0 (pos 0) (ecb 20) gives 2
     ∷ enq 2 None 0 (shr x ∷ []) gives 0
-    ∷ (enq 2 None 0 (shr y ∷ exc x ∷ []) ⇒ 201 ∣ 0 ∣ [] ∣ Is 2 Ended ∷ Word 20 (0x4000_0000 + 201) ∷ Queued x [] ∷ Queued y [] ∷ [])
+    ∷ (enq 2 None 2 (shr y ∷ exc x ∷ []) ⇒ 201 ∣ 0 ∣ [] ∣ Is 2 Ended ∷ Word 20 (0x4000_0000 + 201) ∷ Queued x [] ∷ Queued y [] ∷ [])
+    ∷ clear 2 64 refused 102
     ∷ attach 1 0 (pos 0) (ecb 21) gives 3
     ∷ enq 3 None 0 (exc x ∷ []) gives 0
-    ∷ (deq 3 DeqNone 0 (x ∷ y ∷ []) ⇒ 202 ∣ 0 ∣ [] ∣ Is 3 Ended ∷ Word 21 (0x4000_0000 + 202) ∷ Queued x [] ∷ [])
+    ∷ (deq 3 DeqNone 2 (x ∷ y ∷ []) ⇒ 202 ∣ 0 ∣ [] ∣ Is 3 Ended ∷ Word 21 (0x4000_0000 + 202) ∷ Queued x [] ∷ [])
     ∷ attach 1 0 (pos 0) (ecb 22) gives 4
     ∷ attach 1 0 (pos 0) (ecb 23) gives 5
     ∷ wait 4 1 (9 ∷ []) gives 0
@@ -181,7 +189,26 @@ waiterEnds =
     ∷ (end 1 3 ⇒ 207 ∣ 0 ∣ [] ∣ Over 207 ∷ [])
     ∷ []
 
--- tasks 2 and 3 each have what the other wants; 4 waits for 2 only: 3 is behind nobody of 4's
+-- END over a live subtask, DETACH of a granddaughter and of oneself, DETACH of a live task with two below it; 16 names are taken, 17 are not
+abbrev family : List Line
+family =
+    attach 1 10 (pos 5) (ecb 1) gives 2
+    ∷ attach 2 0 (pos 0) (ecb 2) gives 3
+    ∷ attach 3 0 (pos 0) (ecb 3) gives 4
+    ∷ (end 3 0 ⇒ 207 ∣ 0 ∣ [] ∣ Place 3 (rowOf Ended 2 190 155 (ecb 2)) ∷ Is 4 Free ∷ [])
+    ∷ attach 2 0 (pos 0) (ecb 4) gives 4
+    ∷ attach 4 0 (pos 0) (ecb 5) gives 5
+    ∷ (detach 2 5 ⇒ 208 ∣ 0 ∣ [] ∣ Is 2 Ended ∷ Is 4 Free ∷ Is 5 Free ∷ [])
+    ∷ attach 1 0 (pos 0) (ecb 6) gives 3
+    ∷ attach 3 0 (pos 0) (ecb 7) gives 4
+    ∷ attach 4 0 (pos 0) (ecb 8) gives 5
+    ∷ (detach 1 3 ⇒ 0 ∣ 0 ∣ [] ∣ Is 3 Free ∷ Is 4 Free ∷ Is 5 Free ∷ Word 6 0 ∷ Word 7 0 ∷ Word 8 0 ∷ [])
+    ∷ (enq 1 Use 16 (counted (λ k. shr (named k (0 ∷ []))) 1 16) ⇒ 0 ∣ 0 ∣ replicate 16 0 ∣ Owners (named 16 (0 ∷ [])) (1 ∷ []) ∷ [])
+    ∷ enq 1 Use 17 (counted (λ k. shr (named k (1 ∷ []))) 1 17) refused 101
+    ∷ (detach 1 1 ⇒ 208 ∣ 0 ∣ [] ∣ Over 208 ∷ [])
+    ∷ []
+
+-- tasks 2 and 3 each have what the other wants; 4 waits for 2, and not for 3, whose earlier entry is shared like 4's
 abbrev ring : List Line
 ring =
     attach 1 0 (pos 0) NoEcb gives 2
@@ -191,7 +218,7 @@ ring =
     ∷ enq 3 None 0 (shr y ∷ []) gives 0
     ∷ (enq 2 None 0 (exc y ∷ []) ⇒ 0 ∣ 0 ∣ [] ∣ WaitsFor 2 3 ∷ Passes 3 2 ∷ [])
     ∷ (enq 3 None 0 (shr x ∷ []) ⇒ 0 ∣ 0 ∣ [] ∣ WaitsFor 2 3 ∷ WaitsFor 3 2 ∷ [])
-    ∷ (enq 4 None 0 (shr x ∷ []) ⇒ 0 ∣ 0 ∣ [] ∣ WaitsFor 4 2 ∷ Passes 4 3 ∷ Passes 4 4 ∷ Passes 2 4 ∷ [])
+    ∷ (enq 4 None 0 (shr x ∷ []) ⇒ 0 ∣ 0 ∣ [] ∣ WaitsFor 4 2 ∷ Passes 4 3 ∷ Passes 2 4 ∷ [])
     ∷ dispatch gives 1
     ∷ (detach 1 2 ⇒ 0 ∣ 0 ∣ [] ∣ Is 3 Ready ∷ Is 4 Ready ∷ Owners x (3 ∷ 4 ∷ []) ∷ [])
     ∷ []
@@ -213,6 +240,7 @@ queueFills =
     ∷ (enq 1 Test 1 (exc new ∷ []) ⇒ 0 ∣ 0 ∣ 0 ∷ [] ∣ Unchanged ∷ [])
     ∷ (enq 1 Use 2 (exc new ∷ exc (named 5 (0 ∷ [])) ∷ []) ⇒ 4 ∣ 0 ∣ 0 ∷ 8 ∷ [] ∣ Unchanged ∷ [])
     ∷ deq 1 DeqNone 0 (named 5 (0 ∷ []) ∷ []) gives 0
+    ∷ enq 1 None 0 (exc new ∷ exc (named 201 (0 ∷ [])) ∷ []) refused 105
     ∷ enq 1 None 0 (exc new ∷ []) gives 0
     ∷ (enq 1 None 0 (exc new ∷ []) ⇒ 201 ∣ 0 ∣ [] ∣ Over 201 ∷ [])
     ∷ []
@@ -239,7 +267,9 @@ abbrev areasFill : List Line
 areasFill =
     getmain 1 8 0 refused 107
     ∷ getmainIf 1 131072 1 refused 107
-    ∷ freemain 1 80 8 0 gives 0
+    ∷ getmain 1 131072 1 refused 107
+    ∷ attach 1 0 (pos 0) NoEcb gives 2
+    ∷ freemain 2 80 8 0 gives 0
     ∷ getmain 1 1 0 gives 80
     ∷ []
 
@@ -283,6 +313,7 @@ examples =
     ∷ case (freshOf 200 150) subtree
     ∷ case (freshOf 200 150) waiterEnds
     ∷ case (freshOf 200 150) ring
+    ∷ case (freshOf 200 150) family
     ∷ case (done 0 fullQueue) queueFills
     ∷ case (freshOf 200 150) tasksFill
     ∷ case (done 0 fullAreas) areasFill

@@ -4,3 +4,4 @@ pub mod Running
 pub mod Conditions
 pub mod Blocks
 pub mod Posts
+pub mod Kept

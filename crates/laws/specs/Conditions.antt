@@ -5,10 +5,10 @@ use mathlib.Core.List.{List}
 use Prim.Native.Nat.{ℕ, zero, suc, _+_, _-_, _≤_, _<_}
 use native.Mathlib.Omega.{arith}
 use lib.Dec.{eqb, leb}
-use lib.ListN.{length, getD, set, length-set}
+use lib.ListN.{length, getD, length-set}
 use lib.Seq.{getD-set-same, getD-set-other}
 use borrow.Author.Tests.{eqb-true, eqb-false}
-use Rattle.lists.specs.Lists.{every, everyAt, alike}
+use Rattle.lists.specs.Lists.{every, alike}
 use Rattle.lists.specs.Every.{every-same}
 use Rattle.lists.specs.Numbered.{everyAt-at}
 use Rattle.lists.specs.Setting.{every-at, every-set, everyAt-same, everyAt-set}
@@ -19,13 +19,17 @@ use Rattle.kinds.specs.Tasks.{noTask, isFree, isLive, inResourceWait}
 use Rattle.kinds.specs.declared.tasks.Task.{Task}
 use Rattle.kinds.specs.declared.tasks.MaybeEcb.{MaybeEcb}
 use Rattle.kinds.specs.declared.areas.Area.{Area}
+use Rattle.kinds.specs.declared.ecbs.Ecb.{Ecb}
 use Rattle.rules.specs.Control.{Entry, lacks}
 use Rattle.rules.specs.Family.{place, withPlace, live, used, mother, chain, below}
 use Rattle.rules.specs.Attach.{maybeGood}
-use Rattle.rules.specs.SoundTasks.{hasEcb, tasksFit, jobStepGood, motherGood, mothersGood, prioritiesGood, taskEcbsGood, endedGood, endedTasksGood, zeroTask, freePlacesGood}
+use Rattle.rules.specs.SoundTasks.{tasksFit, jobStepGood, motherGood, mothersGood, prioritiesGood, taskEcbsGood, endedGood, endedTasksGood, zeroTask, freePlacesGood}
 use Rattle.rules.specs.SoundQueue.{entriesLive, waitGood, waitsGood}
 use Rattle.rules.specs.SoundAreas.{areaOwnerGood, areaOwnersGood}
+use Rattle.rules.specs.SoundEcbs.{ecbsFit, waitersGood, needsGood, ecbWordsGood}
+use Rattle.rules.specs.Steps.{Step, withEcbs}
 use Rattle.laws.specs.Places.{place-at}
+use Rattle.laws.specs.Running.{Running}
 
 -- the two places differ at most in what their task waits for
 pub record Kin (x y : Task) : Type 0 where
@@ -142,3 +146,33 @@ module _ (ts : List Task) (w : ℕ) (y : Task) (low : 0 < w) (high : w ≤ lengt
         everyAt-set (waitGood q) 1 ts (w - 1) y h
         (ap (λ (b : Bool). alike b (lacks (1 + (w - 1)) q)) (k .held)
         ∙ subst (λ (x : Task). waitGood q (1 + (w - 1)) x ≡ true) (sym (here w (omega arith))) (everyAt-at (waitGood q) 1 ts noTask h (w - 1) (omega arith)))
+
+-- the ECBs change, and what task w waits for
+pub task-and-blocks : (s : Step) (es : List Ecb) (w : ℕ) (y : Task) → 0 < w → w ≤ length (s .tasks) → Kin (place (s .tasks) w) y → Running s → ecbsFit es ≡ true
+    → waitersGood (withPlace (s .tasks) w y) es ≡ true → needsGood es (withPlace (s .tasks) w y) ≡ true → ecbWordsGood es ≡ true
+    → Running (withEcbs s (withPlace (s .tasks) w y) es)
+task-and-blocks s es w y low high k h f a b d = record {
+  going = h .going;
+  code = h .code;
+  places = fit-kept (s .tasks) w y low high k (h .places);
+  blocks = f;
+  jobStep = jobStep-kept (s .tasks) w y low high k (h .jobStep);
+  mothers = mothers-kept (s .tasks) w y low high k (h .mothers);
+  priorities = priorities-kept (s .tasks) w y low high k (h .priorities);
+  taskEcbs = taskEcbs-kept (s .tasks) w y low high k (h .taskEcbs);
+  ended = ended-kept (s .tasks) w y low high k (h .ended);
+  free = free-kept (s .tasks) w y low high k (h .free);
+  fits = h .fits;
+  entries = entries-kept (s .tasks) w y low high k (s .queue) (h .entries);
+  once = h .once;
+  names = h .names;
+  waits = waits-kept (s .tasks) w y low high k (s .queue) (h .waits);
+  waiters = a;
+  needs = b;
+  words = d;
+  areas = h .areas;
+  shapes = h .shapes;
+  owners = owners-kept (s .tasks) w y low high k (s .areas) (h .owners);
+  rise = h .rise;
+  apart = h .apart;
+}

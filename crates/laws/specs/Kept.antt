@@ -1,20 +1,19 @@
 -- FRESH, DISPATCH, CLEAR and POST keep a sound step sound. Assumes nothing.
-use mathlib.Core.Path.{_≡_, refl, sym, ap, subst, _∙_}
-use mathlib.Core.Bool.{Bool, true, false, not, _&&_, true≢false}
+use mathlib.Core.Path.{_≡_, refl, sym, _∙_}
+use mathlib.Core.Bool.{Bool, true, false, true≢false}
 use mathlib.Core.List.{List}
-use Prim.Native.Nat.{ℕ, _≤_, _<_}
+use Prim.Native.Nat.{ℕ, _<_}
 use native.Mathlib.Omega.{arith}
 use lib.Dec.{eqb, leb}
 use lib.ListN.{length, length-set, set}
 use borrow.Author.Tests.{eqb-true, leb-true, not-false}
-use Rattle.lists.specs.Pick.{pick, pick-false}
+use Rattle.lists.specs.Pick.{pick}
 use Rattle.kinds.specs.Ranges.{ecbGood, postCodeGood, priorityGood, endCodeGood}
 use Rattle.kinds.specs.Tasks.{isLive, waits}
 use Rattle.kinds.specs.Ecbs.{noEcb}
 use Rattle.kinds.specs.declared.numbers.TaskNumber.{TaskNumber}
 use Rattle.kinds.specs.declared.numbers.EcbNumber.{EcbNumber}
 use Rattle.kinds.specs.declared.replies.Fault.{Fault}
-use Rattle.kinds.specs.declared.replies.Refusal.{Refusal}
 use Rattle.kinds.specs.declared.replies.Refusal.the-variants.{OutOfRange, WaitBitOn, StepOver, NotLive, Waits}
 use Rattle.kinds.specs.declared.replies.Gate.{Gate}
 use Rattle.kinds.specs.declared.replies.Gate.the-variants.{Open, Shut}
@@ -35,9 +34,9 @@ use Rattle.rules.specs.SoundQueue.{queueFits, entriesLive, entriesOnce, entryNa
 use Rattle.rules.specs.SoundEcbs.{ecbsFit, waitersGood, needsGood, ecbWordGood, ecbWordsGood, zeroEcb}
 use Rattle.rules.specs.SoundAreas.{areasFit, areaShapesGood, areaOwnersGood, areasRise, areasApart}
 use Rattle.rules.specs.Sound.{soundTasks, soundQueue, soundEcbs, soundAreas, overGood, runningGood, soundStep}
-use Rattle.laws.specs.Running.{Running, running-parts, running-whole}
+use Rattle.laws.specs.Running.{Running, running-parts, running-whole, blocks-only}
 use Rattle.laws.specs.Blocks.{waiters-set, words-set, needs-set, zero-good}
-use Rattle.laws.specs.Posts.{blocks-only, posted-running}
+use Rattle.laws.specs.Posts.{posted-running}
 
 abbrev pub Sound : Step → Type 0
 Sound s = soundStep s ≡ true

@@ -1,7 +1,7 @@
 -- Places of the task table by number. Assumes nothing.
-use mathlib.Core.Path.{_≡_, refl, ap}
+use mathlib.Core.Path.{_≡_, refl, ap, _∙_}
 use mathlib.Core.List.{List}
-use Prim.Native.Nat.{ℕ, zero, suc, _-_, _<_}
+use Prim.Native.Nat.{ℕ, zero, suc, _+_, _-_, _<_}
 use native.Mathlib.Nat.{le-of-suc-le-suc}
 use native.Mathlib.Omega.{arith}
 use lib.ListN.{length, getD, List·getD-eq-default}
@@ -22,3 +22,6 @@ pub place-at : (ts : List Task) (n : ℕ) → 0 < n → place ts n ≡ getD ts (
 unfolding place
 place-at ts zero h = absurd (omega arith)
 place-at ts (suc i) h = let e : i ≡ suc i - 1 = omega arith in ap (λ (k : ℕ). getD ts k noTask) e
+
+pub place-next : (ts : List Task) (i : ℕ) → place ts (1 + i) ≡ getD ts i noTask
+place-next ts i = let e : (1 + i) - 1 ≡ i = omega arith in place-at ts (1 + i) (omega arith) ∙ ap (λ (k : ℕ). getD ts k noTask) e

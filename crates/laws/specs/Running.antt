@@ -1,10 +1,12 @@
 -- A step that runs and breaks no rule, rule by rule. Assumes nothing.
-use mathlib.Core.Path.{_≡_, refl, sym, ap, _∙_}
-use mathlib.Core.Bool.{Bool, true, false, _&&_}
+use mathlib.Core.Path.{_≡_, sym, _∙_}
+use mathlib.Core.Bool.{true, false, _&&_}
 use lib.Dec.{eqb}
-use Rattle.lists.specs.Pick.{pick, pick-false, pick-true}
-use Rattle.lists.specs.Bools.{both, join}
-use Rattle.rules.specs.Steps.{Step}
+use Rattle.lists.specs.Pick.{pick-false}
+use Rattle.lists.specs.Bools.{both}
+use mathlib.Core.List.{List}
+use Rattle.kinds.specs.declared.ecbs.Ecb.{Ecb}
+use Rattle.rules.specs.Steps.{Step, withEcbs}
 use Rattle.rules.specs.SoundTasks.{tasksFit, jobStepGood, mothersGood, prioritiesGood, taskEcbsGood, endedTasksGood, freePlacesGood}
 use Rattle.rules.specs.SoundQueue.{queueFits, entriesLive, entriesOnce, entryNamesGood, waitsGood}
 use Rattle.rules.specs.SoundEcbs.{ecbsFit, waitersGood, needsGood, ecbWordsGood}
@@ -114,3 +116,32 @@ running-whole s h =
       h .rise,
       h .apart,
     ))
+
+-- the ECBs change, and no task
+pub blocks-only : (s : Step) (es : List Ecb) → Running s → ecbsFit es ≡ true → waitersGood (s .tasks) es ≡ true → needsGood es (s .tasks) ≡ true → ecbWordsGood es ≡ true
+    → Running (withEcbs s (s .tasks) es)
+blocks-only s es h f a b d = record {
+  going = h .going;
+  code = h .code;
+  places = h .places;
+  blocks = f;
+  jobStep = h .jobStep;
+  mothers = h .mothers;
+  priorities = h .priorities;
+  taskEcbs = h .taskEcbs;
+  ended = h .ended;
+  free = h .free;
+  fits = h .fits;
+  entries = h .entries;
+  once = h .once;
+  names = h .names;
+  waits = h .waits;
+  waiters = a;
+  needs = b;
+  words = d;
+  areas = h .areas;
+  shapes = h .shapes;
+  owners = h .owners;
+  rise = h .rise;
+  apart = h .apart;
+}

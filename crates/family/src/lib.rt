@@ -1,8 +1,13 @@
 // The task table: task n stands at place n - 1.
+pub mod choice;
+pub mod sound;
+
 use kinds::Task;
 use kinds::TaskNumber;
 ghost use mathlib.Core.Path.{_≡_};
-ghost use Rattle.rules.specs.Family.{place};
+ghost use Prim.Native.Nat.{_≤_};
+ghost use Rattle.kinds.specs.Limits.{lowestTask, highestTask};
+ghost use Rattle.rules.specs.Family.{place, withPlace, below};
 ghost use Rattle.family.specs.Families.{familyOf, nobody};
 
 pub struct Family {
@@ -32,4 +37,36 @@ pub fn at(f: Family, n: TaskNumber) -> Task
     }
     let i = (k - 1) as usize;
     f.places[i]
+}
+
+// The task table with x at place n.
+pub fn with_place(f: Family, n: TaskNumber, x: Task) -> Family
+    requires { ⌜ (lowestTask ≤ n .0) × (n .0 ≤ highestTask) ⌝ }
+    ensures { λ r. ⌜ r ≡ familyOf (withPlace (f .places) (n .0) x) ⌝ }
+{
+    let i = (n.0 - TaskNumber::LOWEST) as usize;
+    let mut g = f;
+    g.places[i] = x;
+    g
+}
+
+// Task n is in use and is c or below c. A chain without repetition has at most as many tasks as there are places.
+pub fn is_below(f: Family, c: TaskNumber, n: TaskNumber) -> bool
+    ensures { λ r. ⌜ r ≡ below (f .places) (c .0) (n .0) ⌝ }
+{
+    let mut a = n.0;
+    let mut left = TaskNumber::HIGHEST;
+    while 0 < left {
+        let x = at(f, TaskNumber(a));
+        let k = x.condition;
+        if k.is_free() {
+            return false;
+        }
+        if a == c.0 {
+            return true;
+        }
+        a = x.mother.0;
+        left -= 1;
+    }
+    false
 }

@@ -1,0 +1,16 @@
+use borrow.Author.Needs.{needs}
+use borrow.Author.Needs.{needs}
+use Rattle.events.proofs.empty.Statement.{statement}
+use Rattle.events.proofs.empty.Tie as tie
+use Rattle.events.proofs.empty.Reads as reads
+use Rattle.events.proofs.empty.Lts as lts
+use Rattle.kinds.proofs.ecbs.Ecb.zero.Reads as zero-reads
+
+zero-requires : tie.Need-zero-requires
+zero-requires c κs = search needs
+
+returns : tie.Need-returns
+returns c = rw ((c .zero) .ensures)
+
+pub empty-spec : {M : Type 1} → statement M
+empty-spec = tie.close (tie.spec zero-requires returns)

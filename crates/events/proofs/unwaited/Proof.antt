@@ -1,0 +1,17 @@
+use Rattle.lists.specs.Pick.{chosen}
+use Rattle.rules.specs.Events.{unwaited}
+use Rattle.events.proofs.unwaited.Statement.{statement}
+use Rattle.events.proofs.unwaited.Tie as tie
+use Rattle.events.proofs.unwaited.Reads as reads
+use Rattle.events.proofs.unwaited.Lts as lts
+
+returns : tie.Need-returns
+unfolding unwaited
+returns c = search chosen depth 10
+
+returns-2 : tie.Need-returns-2
+unfolding unwaited
+returns-2 c = search chosen depth 10
+
+pub unwaited-spec : {M : Type 1} → statement M
+unwaited-spec = tie.close (tie.spec returns returns-2)

@@ -1,0 +1,25 @@
+use mathlib.Core.Path.{_∙_}
+use borrow.Author.Needs.{needs}
+use borrow.Author.Tests.{eq-eqb, ne-eqb}
+use Rattle.events.specs.Words.{good-complete, good-waited, good-incomplete}
+use borrow.Author.Needs.{needs}
+use Rattle.events.proofs.word_good.Statement.{statement}
+use Rattle.events.proofs.word_good.Tie as tie
+use Rattle.events.proofs.word_good.Reads as reads
+use Rattle.events.proofs.word_good.Lts as lts
+use Rattle.kinds.proofs.ecbs.Ecb.code_good.Reads as code-good-reads
+
+code-good-requires : tie.Need-code-good-requires
+code-good-requires c κs = search needs
+
+returns : tie.Need-returns
+returns c = (c .code-good) .ensures ∙ good-complete ((c .before .before .before .before .args) .x) ((c .before .before .before .if1) .taken) (eq-eqb _ _ ((c .before .if2) .taken))
+
+returns-2 : tie.Need-returns-2
+returns-2 c = good-waited ((c .before .before .before .args) .x) ((c .before .before .if1) .taken) (ne-eqb _ _ ((c .if2) .left))
+
+returns-3 : tie.Need-returns-3
+returns-3 c = good-incomplete ((c .before .before .args) .x) ((c .before .if1) .left)
+
+pub word-good-spec : {M : Type 1} → statement M
+word-good-spec = tie.close (tie.spec code-good-requires returns returns-2 returns-3)

@@ -1,0 +1,106 @@
+-- Counting wait bits along a loop, and a change of every ECB. Assumes nothing.
+use mathlib.Core.Path.{_≡_, refl, sym, ap, ap₂, _∙_}
+use mathlib.Core.Bool.{Bool, true, false, cond}
+use mathlib.Core.List.{List, [], _∷_, _++_, map}
+use Prim.Native.Nat.{ℕ, zero, suc, _+_, _≤_, _<_}
+use native.Mathlib.Nat.{le-of-suc-le-suc}
+use native.Mathlib.Numerals.{add-one}
+use native.Mathlib.Omega.{arith}
+use lib.Dec.{eqb}
+use lib.ListN.{length, getD, take, set}
+use lib.Seq.{take-suc, length-take-le}
+use borrow.Author.Tests.{eq-eqb, ne-eqb}
+use Rattle.lists.specs.Lists.{howMany, mapAt}
+use Rattle.kinds.specs.declared.ecbs.Ecb.{Ecb}
+use Rattle.rules.specs.SoundEcbs.{waitedOnBy}
+use Rattle.events.specs.Blocks.{waitsFrom}
+
+few : (b : Bool) (m n : ℕ) → m ≤ n → cond b (1 + m) m ≤ suc n
+few true m n h = omega arith
+few false m n h = omega arith
+
+module _ {A : Type 0} where
+  pub howMany-yes : (f : A → Bool) (p : List A) (x : A) → f x ≡ true → howMany f (p ++ (x ∷ [])) ≡ howMany f p + 1
+  howMany-yes f [] x e = rw e
+  howMany-yes f (y ∷ p) x e = one (f y) (howMany-yes f p x e)
+    where
+      one : (b : Bool) → howMany f (p ++ (x ∷ [])) ≡ howMany f p + 1
+          → cond b (1 + howMany f (p ++ (x ∷ []))) (howMany f (p ++ (x ∷ []))) ≡ cond b (1 + howMany f p) (howMany f p) + 1
+      one true h = omega arith
+      one false h = h
+
+  pub howMany-no : (f : A → Bool) (p : List A) (x : A) → f x ≡ false → howMany f (p ++ (x ∷ [])) ≡ howMany f p
+  howMany-no f [] x e = rw e
+  howMany-no f (y ∷ p) x e = ap (λ (k : ℕ). cond (f y) (1 + k) k) (howMany-no f p x e)
+
+  pub howMany-few : (f : A → Bool) (l : List A) → howMany f l ≤ length l
+  howMany-few f [] = omega arith
+  howMany-few f (x ∷ l) = few (f x) (howMany f l) (length l) (howMany-few f l)
+
+  -- a change that asks for no number
+  pub mapAt-plain : (f : A → A) (n : ℕ) (l : List A) → mapAt (λ k x. f x) n l ≡ map f l
+  mapAt-plain f n [] = refl
+  mapAt-plain f n (x ∷ l) = ap (λ (r : List A). f x ∷ r) (mapAt-plain f (n + 1) l)
+
+pub waits-at : (k n w : ℕ) (es : List Ecb) → w < k → getD (waitsFrom k n es) w 0 ≡ howMany (waitedOnBy (n + w)) es
+unfolding waitsFrom
+waits-at zero n w es h = absurd (omega arith)
+waits-at (suc k) n zero es h = let e : n ≡ n + 0 = omega arith in ap (λ (t : ℕ). howMany (waitedOnBy t) es) e
+waits-at (suc k) n (suc w) es h =
+    let e : (n + 1) + w ≡ n + suc w = omega arith in
+    waits-at k (n + 1) w es (le-of-suc-le-suc h) ∙ ap (λ (t : ℕ). howMany (waitedOnBy t) es) e
+
+-- one ECB more, whose waiter is none of these tasks
+waits-off : (k n : ℕ) (p : List Ecb) (x : Ecb) → ((t : ℕ) → n ≤ t → t < n + k → eqb (x .waiter .0) t ≡ false)
+    → waitsFrom k n (p ++ (x ∷ [])) ≡ waitsFrom k n p
+unfolding waitsFrom
+waits-off zero n p x h = refl
+waits-off (suc k) n p x h =
+    ap₂ (λ (c : ℕ) (l : List ℕ). c ∷ l)
+    (howMany-no (waitedOnBy n) p x (h n (omega arith) (omega arith)))
+    (waits-off k (n + 1) p x (λ t a b. h t (omega arith) (omega arith)))
+
+-- one ECB more, whose waiter is task n + w
+waits-on : (k n w : ℕ) (p : List Ecb) (x : Ecb) → w < k → x .waiter .0 ≡ n + w
+    → set (waitsFrom k n p) w (howMany (waitedOnBy (n + w)) p + 1) ≡ waitsFrom k n (p ++ (x ∷ []))
+unfolding waitsFrom
+waits-on zero n w p x h q = absurd (omega arith)
+waits-on (suc k) n zero p x h q =
+    let e : n + 0 ≡ n = omega arith in
+    ap₂ (λ (c : ℕ) (l : List ℕ). c ∷ l)
+    (ap (λ (t : ℕ). howMany (waitedOnBy t) p + 1) e ∙ sym (howMany-yes (waitedOnBy n) p x (eq-eqb _ _ (q ∙ e))))
+    (sym (waits-off k (n + 1) p x (λ t a b. ne-eqb _ _ (λ (z : x .waiter .0 ≡ t). omega arith))))
+waits-on (suc k) n (suc w) p x h q =
+    let e : n + suc w ≡ (n + 1) + w = omega arith in
+    ap₂ (λ (c : ℕ) (l : List ℕ). c ∷ l)
+    (sym (howMany-no (waitedOnBy n) p x (ne-eqb _ _ (λ (z : x .waiter .0 ≡ n). omega arith))))
+    (ap (λ (t : ℕ). set (waitsFrom k (n + 1) p) w (howMany (waitedOnBy t) p + 1)) e
+    ∙ waits-on k (n + 1) w p x (le-of-suc-le-suc h) (q ∙ e))
+
+-- a loop that counts for k tasks, the first of which is 0: the ECB at place i is counted, or is none of theirs
+module _ (k : ℕ) (es : List Ecb) (i : ℕ) (d : Ecb) (l : List ℕ) (h : i < length es) (v : l ≡ waitsFrom k 0 (take i es)) where
+  pub counted-few : (w : ℕ) → w < k → getD l w 0 ≤ i
+  counted-few w m =
+      let a : getD l w 0 ≡ howMany (waitedOnBy (0 + w)) (take i es) = ap (λ (r : List ℕ). getD r w 0) v ∙ waits-at k 0 w (take i es) m in
+      let b = howMany-few (waitedOnBy (0 + w)) (take i es) in
+      let z : length (take i es) ≡ i = length-take-le i es (omega arith) in
+      omega arith
+
+  one-more : waitsFrom k 0 (take i es ++ (getD es i d ∷ [])) ≡ waitsFrom k 0 (take (i + 1) es)
+  one-more =
+      let e : take i es ++ (getD es i d ∷ []) ≡ take (i + 1) es = rw (add-one) (sym (take-suc es i d h)) in
+      ap (waitsFrom k 0) e
+
+  pub counted : (w : ℕ) → w < k → getD es i d .waiter .0 ≡ w → set l w (getD l w 0 + 1) ≡ waitsFrom k 0 (take (i + 1) es)
+  counted w m q =
+      let z : getD es i d .waiter .0 ≡ 0 + w = omega (arith, q) in
+      ap (λ (r : List ℕ). set r w (getD r w 0 + 1)) v
+      ∙ ap (λ (a : ℕ). set (waitsFrom k 0 (take i es)) w (a + 1)) (waits-at k 0 w (take i es) m)
+      ∙ waits-on k 0 w (take i es) (getD es i d) m z
+      ∙ one-more
+
+  pub not-counted : k ≤ getD es i d .waiter .0 → l ≡ waitsFrom k 0 (take (i + 1) es)
+  not-counted q =
+      v
+      ∙ sym (waits-off k 0 (take i es) (getD es i d) (λ t a b. ne-eqb _ _ (λ (z : getD es i d .waiter .0 ≡ t). omega arith)))
+      ∙ one-more

@@ -1,0 +1,68 @@
+// What the queue and the task table have to say of each other.
+use family::Family;
+use kinds::Task;
+use kinds::TaskNumber;
+use queue::Queue;
+ghost use mathlib.Core.Path.{_≡_};
+ghost use Prim.Native.Nat.{_≤_};
+ghost use Rattle.lists.specs.Lists.{alike};
+ghost use Rattle.kinds.specs.Limits.{mostEntries};
+ghost use Rattle.kinds.specs.Tasks.{inResourceWait};
+ghost use Rattle.rules.specs.Family.{live as liveTask};
+ghost use Rattle.rules.specs.SoundQueue.{entriesLive, waitsGood};
+ghost use Rattle.queue.specs.Queues.{live};
+
+pub fn is_live(f: Family, n: TaskNumber) -> bool
+    ensures { λ r. ⌜ r ≡ liveTask (f .places) (n .0) ⌝ }
+{
+    let x = family::at(f, n);
+    let k = x.condition;
+    k.is_live()
+}
+
+// Each entry is of a live task.
+pub fn entries_live(q: Queue, f: Family) -> bool
+    requires { ⌜ q .count ≤ mostEntries ⌝ }
+    ensures { λ r. ⌜ r ≡ entriesLive (f .places) (live q) ⌝ }
+{
+    let n = q.count;
+    let mut i = 0;
+    while i < n {
+        let x = q.slots[i];
+        let t = x.task;
+        if !is_live(f, t) {
+            return false;
+        }
+        i += 1;
+    }
+    true
+}
+
+// The task is in a resource wait exactly when it lacks control.
+fn wait_good(x: Task, lacks: bool) -> bool
+    ensures { λ r. ⌜ r ≡ alike (inResourceWait (x .condition)) lacks ⌝ }
+{
+    let k = x.condition;
+    if k.in_resource_wait() {
+        return lacks;
+    }
+    !lacks
+}
+
+// A task is in a resource wait exactly when an entry of its lacks control.
+pub fn waits_good(q: Queue, f: Family) -> bool
+    requires { ⌜ q .count ≤ mostEntries ⌝ }
+    ensures { λ r. ⌜ r ≡ waitsGood (live q) (f .places) ⌝ }
+{
+    let m = queue::lacking(q);
+    let mut i = 0;
+    while i < TaskNumber::PLACES {
+        let x = f.places[i];
+        i += 1;
+        let l = m.lacking[i];
+        if !wait_good(x, l) {
+            return false;
+        }
+    }
+    true
+}

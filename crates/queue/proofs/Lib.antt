@@ -1,0 +1,4 @@
+pub mod Views
+pub mod Tests
+pub mod Barring
+pub mod Passes

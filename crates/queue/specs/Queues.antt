@@ -1,0 +1,68 @@
+-- The queue's struct, the list of entries that it stands for, and the struct that keeps a list. Assumes nothing.
+use mathlib.Core.Path.{_≡_}
+use mathlib.Core.Bool.{Bool, true, false, not, _&&_}
+use mathlib.Core.List.{List, map}
+use Prim.Native.Nat.{ℕ, _≤_}
+use lib.Dec.{eqb, ltb}
+use lib.ListN.{length, replicate, take, drop}
+use Rattle.lists.specs.Pick.{pick}
+use Rattle.lists.specs.Lists.{every, sameBytes}
+use Rattle.lists.specs.Tables.{padded}
+use Rattle.kinds.specs.Limits.{mostEntries, longestMinor, majorBytes}
+use Rattle.kinds.specs.declared.names.Slot.{Slot}
+use Rattle.names.specs.Named.{resourceOf}
+use Rattle.rules.specs.Control.{Entry}
+use Rattle.queue.specs.declared.Queue.{Queue}
+
+-- the entry that a slot shows, and the slot that keeps an entry
+abbrev pub entryOf : Slot → Entry
+entryOf s = record { task = s .task .0; exclusive = s .exclusive; name = resourceOf (s .name) }
+
+abbrev pub slotOf : Entry → Slot
+slotOf e = record {
+  task = record { 0 = e .task };
+  exclusive = e .exclusive;
+  name = record { major = e .name .major; minor = padded longestMinor 0 (e .name .minor); length = length (e .name .minor) };
+}
+
+abbrev pub zeroSlot : Slot
+zeroSlot = record {
+  task = record { 0 = 0 };
+  exclusive = false;
+  name = record { major = replicate majorBytes 0; minor = replicate longestMinor 0; length = 0 };
+}
+
+abbrev pub rowsOf : List Slot → Queue
+rowsOf l = record { slots = padded mostEntries zeroSlot l; count = length l }
+
+-- the list that a queue stands for, and the queue that keeps a list
+abbrev pub live : Queue → List Entry
+live q = take (q .count) (map entryOf (q .slots))
+
+abbrev pub stored : List Entry → Queue
+stored l = rowsOf (map slotOf l)
+
+-- the queue keeps its list: nothing else stands in it
+pub record Packed (q : Queue) : Type 0 where
+  pub form : q ≡ stored (live q)
+  pub room : q .count ≤ mostEntries
+
+-- the test of it: "unused places and fields are zero"
+unfoldable pub isFine : Slot → Bool
+isFine s =
+    pick (ltb longestMinor (s .name .length)) false
+    (eqb (length (s .name .minor)) longestMinor && every (eqb 0) (drop (s .name .length) (s .name .minor)))
+
+unfoldable pub isZero : Slot → Bool
+isZero s =
+    eqb (s .task .0) 0 && (not (s .exclusive) && (eqb (s .name .length) 0
+    && (sameBytes (s .name .major) (replicate majorBytes 0) && sameBytes (s .name .minor) (replicate longestMinor 0))))
+
+unfoldable pub allFine : Queue → Bool
+allFine q = every isFine (take (q .count) (q .slots))
+
+unfoldable pub restZero : Queue → Bool
+restZero q = eqb (length (q .slots)) mostEntries && every isZero (drop (q .count) (q .slots))
+
+unfoldable pub packedb : Queue → Bool
+packedb q = pick (ltb mostEntries (q .count)) false (allFine q && restZero q)

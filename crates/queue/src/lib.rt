@@ -1,0 +1,240 @@
+// The resource queue: entries in the order of request, packed.
+use kinds::Name;
+use kinds::Slot;
+use kinds::TaskNumber;
+ghost use mathlib.Core.Path.{_≡_};
+ghost use mathlib.Core.List.{[]};
+ghost use Prim.Native.Nat.{_≤_};
+ghost use Rattle.kinds.specs.Limits.{mostEntries};
+ghost use Rattle.rules.specs.Rings.{bars as barsOf};
+ghost use Rattle.rules.specs.SoundQueue.{sameRequest, entriesOnce, entryNamesGood, queueFits};
+ghost use Rattle.queue.specs.Queues.{entryOf, stored, live, isFine, isZero, allFine, restZero, packedb};
+ghost use Rattle.queue.specs.Marking.{marksOf, withMark};
+
+pub struct Queue {
+    pub slots: [Slot; Slot::PLACES],
+    pub count: usize,
+}
+
+// For each task number, 0 to the highest: an entry of the task lacks control.
+pub struct Marks {
+    pub lacking: [bool; TaskNumber::PLACES + 1],
+}
+
+// The queue with no entry.
+pub fn empty() -> Queue
+    ensures { λ r. ⌜ r ≡ stored [] ⌝ }
+{
+    let n = Name {
+        major: [0u8; Name::MAJOR],
+        minor: [0u8; Name::LONGEST],
+        length: 0,
+    };
+    let e = Slot {
+        task: TaskNumber(0),
+        exclusive: false,
+        name: n,
+    };
+    Queue {
+        slots: [e; Slot::PLACES],
+        count: 0,
+    }
+}
+
+// The bytes after a minor part are zero.
+fn is_fine(s: Slot) -> bool
+    ensures { λ r. ⌜ r ≡ isFine s ⌝ }
+{
+    let n = s.name;
+    let b = n.minor;
+    let mut i = n.length as usize;
+    if Name::LONGEST < i {
+        return false;
+    }
+    while i < Name::LONGEST {
+        if b[i] != 0 {
+            return false;
+        }
+        i += 1;
+    }
+    true
+}
+
+fn is_zero(s: Slot) -> bool
+    ensures { λ r. ⌜ r ≡ isZero s ⌝ }
+{
+    let n = s.name;
+    let a = n.major;
+    let b = n.minor;
+    let no_major = [0u8; Name::MAJOR];
+    let no_minor = [0u8; Name::LONGEST];
+    if s.task.0 != 0 {
+        return false;
+    }
+    if s.exclusive {
+        return false;
+    }
+    if n.length != 0 {
+        return false;
+    }
+    if !lists::same_bytes(&a, &no_major) {
+        return false;
+    }
+    lists::same_bytes(&b, &no_minor)
+}
+
+fn all_fine(q: Queue) -> bool
+    requires { ⌜ q .count ≤ mostEntries ⌝ }
+    ensures { λ r. ⌜ r ≡ allFine q ⌝ }
+{
+    let n = q.count;
+    let mut i = 0;
+    while i < n {
+        let x = q.slots[i];
+        if !is_fine(x) {
+            return false;
+        }
+        i += 1;
+    }
+    true
+}
+
+fn rest_zero(q: Queue) -> bool
+    requires { ⌜ q .count ≤ mostEntries ⌝ }
+    ensures { λ r. ⌜ r ≡ restZero q ⌝ }
+{
+    let mut i = q.count;
+    while i < Slot::PLACES {
+        let x = q.slots[i];
+        if !is_zero(x) {
+            return false;
+        }
+        i += 1;
+    }
+    true
+}
+
+// The queue keeps a list of entries, and nothing else stands in it.
+pub fn packed(q: Queue) -> bool
+    ensures { λ r. ⌜ r ≡ packedb q ⌝ }
+{
+    if Slot::PLACES < q.count {
+        return false;
+    }
+    let f = all_fine(q);
+    let z = rest_zero(q);
+    f & z
+}
+
+// The array bounds the list, whatever the count.
+pub fn queue_fits(q: Queue) -> bool
+    ensures { λ r. ⌜ r ≡ queueFits (live q) ⌝ }
+{
+    true
+}
+
+// An earlier entry keeps a later one waiting: they are for one name, and not both shared.
+pub fn bars(x: Slot, e: Slot) -> bool
+    ensures { λ r. ⌜ r ≡ barsOf (entryOf x) (entryOf e) ⌝ }
+{
+    if x.exclusive || e.exclusive {
+        let a = x.name;
+        let b = e.name;
+        return names::same_name(a, b);
+    }
+    false
+}
+
+// Two entries of one task for one name.
+fn same_request(a: Slot, b: Slot) -> bool
+    ensures { λ r. ⌜ r ≡ sameRequest (entryOf a) (entryOf b) ⌝ }
+{
+    if b.task.0 != a.task.0 {
+        return false;
+    }
+    let m = b.name;
+    let n = a.name;
+    names::same_name(m, n)
+}
+
+// No task has two entries for one name.
+pub fn entries_once(q: Queue) -> bool
+    requires { ⌜ q .count ≤ mostEntries ⌝ }
+    ensures { λ r. ⌜ r ≡ entriesOnce (live q) ⌝ }
+{
+    let n = q.count;
+    let mut i = 0;
+    while i < n {
+        let x = q.slots[i];
+        i += 1;
+        let mut j = i;
+        while j < n {
+            let y = q.slots[j];
+            if same_request(x, y) {
+                return false;
+            }
+            j += 1;
+        }
+    }
+    true
+}
+
+pub fn entry_names_good(q: Queue) -> bool
+    requires { ⌜ q .count ≤ mostEntries ⌝ }
+    ensures { λ r. ⌜ r ≡ entryNamesGood (live q) ⌝ }
+{
+    let n = q.count;
+    let mut i = 0;
+    while i < n {
+        let x = q.slots[i];
+        let m = x.name;
+        if !names::is_legal(m) {
+            return false;
+        }
+        i += 1;
+    }
+    true
+}
+
+// The marks, after an entry of the task that has control or lacks it.
+fn marked(m: Marks, t: TaskNumber, granted: bool) -> Marks
+    ensures { λ r. ⌜ r ≡ withMark m (t .0) granted ⌝ }
+{
+    if granted {
+        return m;
+    }
+    let k = t.0 as usize;
+    if TaskNumber::PLACES < k {
+        return m;
+    }
+    let mut r = m;
+    r.lacking[k] = true;
+    r
+}
+
+// Which tasks lack control: each entry is tested behind those before it, until one bars it.
+pub fn lacking(q: Queue) -> Marks
+    requires { ⌜ q .count ≤ mostEntries ⌝ }
+    ensures { λ r. ⌜ r ≡ marksOf (live q) ⌝ }
+{
+    let n = q.count;
+    let mut m = Marks {
+        lacking: [false; TaskNumber::PLACES + 1],
+    };
+    let mut i = 0;
+    while i < n {
+        let x = q.slots[i];
+        let mut free = true;
+        let mut j = 0;
+        while (j < i) & free {
+            let y = q.slots[j];
+            let b = bars(y, x);
+            free = !b;
+            j += 1;
+        }
+        let t = x.task;
+        m = marked(m, t, free);
+        i += 1;
+    }
+    m
+}

@@ -1,0 +1,3 @@
+pub mod Posts
+pub mod Sound
+pub mod Steps

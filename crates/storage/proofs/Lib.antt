@@ -1,0 +1,4 @@
+pub mod Tests
+pub mod Trials
+pub mod Growing
+pub mod Ranks

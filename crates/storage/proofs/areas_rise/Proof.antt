@@ -1,0 +1,84 @@
+use Prim.Native.Nat.{_≤_, _<_, _-_}
+use mathlib.Core.Path.{_≡_, refl, sym, _∙_}
+use native.Mathlib.Omega.{arith}
+use borrow.Author.Needs.{needs}
+use borrow.Author.Tests.{lt-ltb, le-ltb}
+use lib.ListN.{length, take}
+use lib.Seq.{slice}
+use Rattle.lists.specs.Lists.{pairwise}
+use Rattle.lists.specs.Arrays.{mapped-length}
+use Rattle.rules.specs.SoundAreas.{areasRise}
+use Rattle.storage.specs.Pairs.{pairs-last, neighbours-fail, neighbours-go}
+use Rattle.storage.proofs.Tests.{rises, rises-chain}
+use Rattle.storage.proofs.areas_rise.Statement.{statement}
+use Rattle.storage.proofs.areas_rise.Tie as tie
+use Rattle.storage.proofs.areas_rise.Reads as reads
+use Rattle.storage.proofs.areas_rise.Lts as lts
+
+abbrev Inv-loop : tie.InvT-loop
+Inv-loop s n i₀ i = (0 < i) × (n ≤ 128) × (length (s .areas) ≡ 128) × (pairwise rises (take n (s .areas)) ≡ pairwise rises (slice (i - 1) n (s .areas)))
+
+abbrev μ-loop : tie.MeasureT-loop
+μ-loop s n i₀ i = n - i
+
+loop-holds : tie.Need-loop-holds Inv-loop μ-loop
+loop-holds c = (omega arith, omega arith, search (needs, mapped-length), refl)
+
+sub-x : tie.Need-sub-x Inv-loop μ-loop
+sub-x c = omega arith
+
+mul-x : tie.Need-mul-x Inv-loop μ-loop
+mul-x c = omega arith
+
+element-copy-out-x : tie.Need-element-copy-out-x Inv-loop μ-loop
+element-copy-out-x c = omega arith
+
+mul-y : tie.Need-mul-y Inv-loop μ-loop
+mul-y c = omega arith
+
+element-copy-out-y : tie.Need-element-copy-out-y Inv-loop μ-loop
+element-copy-out-y c = omega arith
+
+returns : tie.Need-returns Inv-loop μ-loop
+unfolding areasRise
+returns c =
+    let a = c .before .before .before .before .before .before .before .args in
+    let l = c .before .before .before .before .before .before .loop in
+    sym (l .inv .3 ∙ neighbours-fail rises (l .i) (a .t1 .count) (a .t1 .areas) _ (omega arith) (omega arith) (omega arith) (le-ltb _ _ (c .if1 .taken)))
+
+add-i : tie.Need-add-i Inv-loop μ-loop
+add-i c = omega arith
+
+loop-less : tie.Need-loop-less Inv-loop μ-loop
+loop-less c = omega arith
+
+loop-again : tie.Need-loop-again Inv-loop μ-loop
+loop-again c =
+    let a = c .before .before .before .before .before .before .before .args in
+    let l = c .before .before .before .before .before .before .loop in
+    (omega arith, omega arith, omega arith, l .inv .3 ∙ neighbours-go rises (l .i) (a .t1 .count) (a .t1 .areas) _ (omega arith) (omega arith) (omega arith) rises-chain (lt-ltb _ _ (c .if1 .left)))
+
+returns-2 : tie.Need-returns-2 Inv-loop μ-loop
+unfolding areasRise
+returns-2 c =
+    let a = c .before .before .args in
+    let l = c .before .loop in
+    sym (l .inv .3 ∙ pairs-last rises (l .i - 1) (a .t1 .count) (a .t1 .areas) (omega arith))
+
+pub areas-rise-spec : {M : Type 1} → statement M
+areas-rise-spec =
+    tie.close
+    (tie.spec
+    Inv-loop
+    μ-loop
+    loop-holds
+    sub-x
+    mul-x
+    element-copy-out-x
+    mul-y
+    element-copy-out-y
+    returns
+    add-i
+    loop-less
+    loop-again
+    returns-2)

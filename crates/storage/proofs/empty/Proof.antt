@@ -1,0 +1,18 @@
+use Prim.Native.Nat.{_-_}
+use borrow.Author.Needs.{needs}
+use Rattle.lists.specs.Tables.{padded}
+use Rattle.storage.proofs.empty.Statement.{statement}
+use Rattle.storage.proofs.empty.Tie as tie
+use Rattle.storage.proofs.empty.Reads as reads
+use Rattle.storage.proofs.empty.Lts as lts
+use Rattle.kinds.proofs.areas.Area.zero.Reads as zero-reads
+
+zero-requires : tie.Need-zero-requires
+zero-requires c κs = search needs
+
+returns : tie.Need-returns
+unfolding padded
+returns c = rw (c .zero .ensures)
+
+pub empty-spec : {M : Type 1} → statement M
+empty-spec = tie.close (tie.spec zero-requires returns)

@@ -1,0 +1,23 @@
+use Prim.Native.Nat.{_-_}
+use borrow.Author.Needs.{needs}
+use Rattle.lists.specs.Pick.{chosen}
+use Rattle.storage.specs.Stored.{packedb}
+use Rattle.storage.proofs.packed.Statement.{statement}
+use Rattle.storage.proofs.packed.Tie as tie
+use Rattle.storage.proofs.packed.Reads as reads
+use Rattle.storage.proofs.packed.Lts as lts
+use Rattle.storage.proofs.rest_zero.Reads as rest-zero-reads
+
+returns : tie.Need-returns
+unfolding packedb
+returns c = search chosen depth 10
+
+rest-zero-requires : tie.Need-rest-zero-requires
+rest-zero-requires c κs = search needs
+
+returns-2 : tie.Need-returns-2
+unfolding packedb
+returns-2 c = search (chosen, c .rest-zero .ensures) depth 10
+
+pub packed-spec : {M : Type 1} → statement M
+packed-spec = tie.close (tie.spec returns rest-zero-requires returns-2)

@@ -1,0 +1,4 @@
+pub mod Stored
+pub mod Kept
+pub mod Pairs
+pub mod Changes

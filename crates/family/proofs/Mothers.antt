@@ -1,4 +1,4 @@
--- The rule on the mother of task n, where its place x is in use and n is not task 1. Assumes nothing.
+-- The rule on the mother of task n, whose place is x, by the tests that the code makes. Assumes nothing.
 use mathlib.Core.Path.{_≡_, sym}
 use mathlib.Core.Bool.{Bool, true, false, _&&_}
 use mathlib.Core.List.{List}
@@ -19,7 +19,7 @@ module _ (ts : List Task) (n : ℕ) (x : Task) where
   unfolding motherGood
   job-step u e = rw (u, e)
 
-  -- the answer of two tests
+  -- l and b are what the two tests answered
   pub other-task : (l b : Bool) → isFree (x .condition) ≡ false → eqb n jobStepTask ≡ false → l ≡ live ts (x .mother .0) → b ≡ below ts jobStepTask n
       → (l && b) ≡ motherGood ts n x
   unfolding motherGood

@@ -46,7 +46,7 @@ none-better x h (y ∷ ts) =
     ∙ ap (λ (b : Bool). b && every (noBetter x) ts) (raised-leb h x y)
     ∙ and-assoc (leb h (x .dispatching)) (noBetter x y) (every (noBetter x) ts)
 
-none-exceeds : (x : Task) (ts : List Task) → every (noBetter x) ts ≡ leb (highest 0 ts) (x .dispatching)
+pub none-exceeds : (x : Task) (ts : List Task) → every (noBetter x) ts ≡ leb (highest 0 ts) (x .dispatching)
 none-exceeds x ts = sym (none-better x 0 ts ∙ rw (le-leb 0 (x .dispatching) (omega arith)))
 
 -- the first pass: what the rest gives

@@ -2,7 +2,7 @@
 use mathlib.Core.Path.{_≡_, refl, sym, ap, _∙_}
 use mathlib.Core.Bool.{Bool, true, false, _&&_, and-false}
 use mathlib.Core.List.{List, [], _∷_, _++_, append-assoc}
-use Prim.Native.Nat.{ℕ, zero, suc, min, _+_, _≤_, _<_}
+use Prim.Native.Nat.{ℕ, zero, suc, min, _+_, _≤_}
 use native.Mathlib.Nat.{zero-min, min-zero, suc-min-suc}
 use native.Mathlib.Omega.{arith}
 use lib.Dec.{eqb}
@@ -14,7 +14,7 @@ use Rattle.lists.specs.Bytes.{same-lengths}
 use Rattle.kinds.specs.Limits.{longestMinor, majorBytes}
 use Rattle.kinds.specs.Ranges.{minorGood}
 use Rattle.kinds.specs.declared.names.Name.{Name}
-use Rattle.rules.specs.Names.{Resource, sameName, legal}
+use Rattle.rules.specs.Names.{sameName, legal}
 use Rattle.names.specs.Named.{shown, resourceOf}
 
 pub shown-length : (n : ℕ) (l : List ℕ) → length (shown n l) ≡ n

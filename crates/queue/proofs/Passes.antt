@@ -2,13 +2,13 @@
 use mathlib.Core.Path.{_≡_, refl, ap, _∙_}
 use mathlib.Core.Bool.{Bool, true, false}
 use mathlib.Core.List.{List, [], _∷_, map}
-use Prim.Native.Nat.{ℕ, zero, suc, _+_, _-_, _≤_}
+use Prim.Native.Nat.{ℕ, zero, suc, _-_, _≤_}
 use native.Mathlib.Omega.{arith}
 use lib.Dec.{eqb, ltb, leb}
 use lib.ListN.{length, replicate, take, drop, length-map, length-append, length-replicate}
 use lib.Seq.{take-at, drop-at}
 use borrow.Author.Tests.{le-ltb, eq-eqb, leb-true}
-use Rattle.lists.specs.Pick.{pick, pick-false, chain-not}
+use Rattle.lists.specs.Pick.{pick-false, chain-not}
 use Rattle.lists.specs.Lists.{every}
 use Rattle.lists.specs.Bools.{both, join}
 use Rattle.lists.specs.Tables.{padded}

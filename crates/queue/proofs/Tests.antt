@@ -1,14 +1,14 @@
 -- How the loops over what the slots show come out. Assumes nothing.
-use mathlib.Core.Path.{_≡_, refl, sym, ap, _∙_}
+use mathlib.Core.Path.{_≡_, sym, ap, _∙_}
 use mathlib.Core.Bool.{Bool, true, false, not, _&&_}
 use mathlib.Core.List.{List, map}
 use Prim.Native.Nat.{ℕ, min, _+_, _≤_, _<_}
 use native.Mathlib.Omega.{arith}
-use lib.Dec.{eqb, ltb, leb}
-use lib.ListN.{length, take, drop, getD, length-map, length-take}
+use lib.Dec.{eqb, ltb}
+use lib.ListN.{length, drop, getD, length-map, length-take}
 use lib.Seq.{slice, slice-empty}
 use borrow.Author.Tests.{le-ltb, eq-eqb, le-leb}
-use Rattle.lists.specs.Pick.{pick, pick-false}
+use Rattle.lists.specs.Pick.{pick-false}
 use Rattle.lists.specs.Lists.{every, some, distinct}
 use Rattle.lists.specs.Every.{slice-view}
 use Rattle.kinds.specs.Limits.{mostEntries, longestMinor}

@@ -1,14 +1,14 @@
 -- The laws of the view: what is kept shows again, and a packed queue is kept. Assumes nothing.
-use mathlib.Core.Path.{_≡_, refl, sym, ap, _∙_}
+use mathlib.Core.Path.{_≡_, sym, ap, _∙_}
 use mathlib.Core.Bool.{Bool, true, not}
 use mathlib.Core.List.{List, map}
-use Prim.Native.Nat.{ℕ, _+_, _-_, _≤_}
+use Prim.Native.Nat.{ℕ, _-_, _≤_}
 use native.Mathlib.Omega.{arith}
 use lib.Dec.{eqb, ltb}
 use lib.ListN.{length, replicate, take, drop, length-map, length-take, length-drop}
 use lib.Seq.{length-take-le}
 use borrow.Author.Tests.{eqb-true, ltb-false, not-true}
-use Rattle.lists.specs.Pick.{pick, chain-not}
+use Rattle.lists.specs.Pick.{chain-not}
 use Rattle.lists.specs.Lists.{every, keep, sameBytes}
 use Rattle.lists.specs.Keeping.{length-keep, take-map}
 use Rattle.lists.specs.Bools.{both}

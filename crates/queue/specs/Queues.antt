@@ -1,8 +1,8 @@
 -- The queue's struct, the list of entries that it stands for, and the struct that keeps a list. Assumes nothing.
 use mathlib.Core.Path.{_≡_}
-use mathlib.Core.Bool.{Bool, true, false, not, _&&_}
+use mathlib.Core.Bool.{Bool, false, not, _&&_}
 use mathlib.Core.List.{List, map}
-use Prim.Native.Nat.{ℕ, _≤_}
+use Prim.Native.Nat.{_≤_}
 use lib.Dec.{eqb, ltb}
 use lib.ListN.{length, replicate, take, drop}
 use Rattle.lists.specs.Pick.{pick}

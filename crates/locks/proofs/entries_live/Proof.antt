@@ -11,14 +11,11 @@ use Rattle.lists.specs.Arrays.{mapped-length}
 use Rattle.lists.specs.Every.{every-end, all-fails, all-goes}
 use Rattle.queue.specs.Queues.{entryOf}
 use Rattle.kinds.specs.Limits.{mostEntries}
-use Rattle.rules.specs.Control.{Entry}
 use Rattle.rules.specs.Family.{live as liveTask}
+use Rattle.rules.specs.Control.{Entry}
 use Rattle.rules.specs.SoundQueue.{entriesLive}
 use Rattle.locks.proofs.entries_live.Statement.{statement}
 use Rattle.locks.proofs.entries_live.Tie as tie
-use Rattle.locks.proofs.entries_live.Reads as reads
-use Rattle.locks.proofs.entries_live.Lts as lts
-use Rattle.locks.proofs.is_live.Reads as is-live-reads
 
 abbrev Inv-loop : tie.InvT-loop
 Inv-loop f q n i₀ i = (i ≤ n) × (n ≤ mostEntries) × (length (q .slots) ≡ mostEntries) × (every (λ (e : Entry). liveTask (f .places) (e .task)) (take n (map entryOf (q .slots))) ≡ every (λ (e : Entry). liveTask (f .places) (e .task)) (slice i n (map entryOf (q .slots))))

@@ -13,10 +13,6 @@ use Rattle.kinds.specs.Tasks.{noTask}
 use Rattle.locks.proofs.Both.{byMark, waits-are}
 use Rattle.locks.proofs.waits_good.Statement.{statement}
 use Rattle.locks.proofs.waits_good.Tie as tie
-use Rattle.locks.proofs.waits_good.Reads as reads
-use Rattle.locks.proofs.waits_good.Lts as lts
-use Rattle.locks.proofs.wait_good.Reads as wait-good-reads
-use Rattle.queue.proofs.lacking.Reads as lacking-reads
 
 abbrev Inv-loop : tie.InvT-loop
 Inv-loop f m i₀ i = (i ≤ highestTask) × (length (f .places) ≡ highestTask) × (length (m .lacking) ≡ highestTask + 1) × (everyAt (byMark m) 1 (f .places) ≡ everyAt (byMark m) (i + 1) (drop i (f .places)))

@@ -1,12 +1,8 @@
 use Prim.Native.Nat.{_-_}
 use borrow.Author.Needs.{needs}
 use Rattle.names.proofs.Shown.{legal-is}
-use borrow.Author.Needs.{needs}
 use Rattle.names.proofs.is_legal.Statement.{statement}
 use Rattle.names.proofs.is_legal.Tie as tie
-use Rattle.names.proofs.is_legal.Reads as reads
-use Rattle.names.proofs.is_legal.Lts as lts
-use Rattle.kinds.proofs.names.Name.minor_good.Reads as minor-good-reads
 
 minor-good-requires : tie.Need-minor-good-requires
 minor-good-requires c κs = search needs

@@ -6,13 +6,8 @@ use borrow.Author.Tests.{not-true, not-false}
 use lib.ListN.{length}
 use Rattle.names.proofs.Shown.{differ, minors}
 use lib.ListN.{length-take}
-use borrow.Author.Needs.{needs}
 use Rattle.names.proofs.same_name.Statement.{statement}
 use Rattle.names.proofs.same_name.Tie as tie
-use Rattle.names.proofs.same_name.Reads as reads
-use Rattle.names.proofs.same_name.Lts as lts
-use Rattle.lists.proofs.same_bytes.Reads as same-bytes-reads
-use Rattle.names.proofs.used.Reads as used-reads
 
 returns : tie.Need-returns
 returns c = differ ((c .before .before .before .args) .a) ((c .before .before .before .args) .b) ((c .if1) .taken)

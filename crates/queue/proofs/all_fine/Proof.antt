@@ -12,9 +12,6 @@ use Rattle.queue.specs.Queues.{isFine, allFine}
 use Rattle.kinds.specs.Limits.{mostEntries}
 use Rattle.queue.proofs.all_fine.Statement.{statement}
 use Rattle.queue.proofs.all_fine.Tie as tie
-use Rattle.queue.proofs.all_fine.Reads as reads
-use Rattle.queue.proofs.all_fine.Lts as lts
-use Rattle.queue.proofs.is_fine.Reads as is-fine-reads
 
 abbrev Inv-loop : tie.InvT-loop
 Inv-loop q n i₀ i = (i ≤ n) × (n ≤ mostEntries) × (length (q .slots) ≡ mostEntries) × (every isFine (take n (q .slots)) ≡ every isFine (slice i n (q .slots)))

@@ -5,9 +5,6 @@ use Rattle.laws.specs.Control.{bars-first, bars-second, bars-neither}
 use borrow.Author.Needs.{needs}
 use Rattle.queue.proofs.bars.Statement.{statement}
 use Rattle.queue.proofs.bars.Tie as tie
-use Rattle.queue.proofs.bars.Reads as reads
-use Rattle.queue.proofs.bars.Lts as lts
-use Rattle.names.proofs.same_name.Reads as same-name-reads
 
 same-name-requires : tie.Need-same-name-requires
 same-name-requires c κs = search needs

@@ -2,8 +2,6 @@ use mathlib.Core.Path.{refl}
 use Rattle.lists.specs.Tables.{padded}
 use Rattle.queue.proofs.empty.Statement.{statement}
 use Rattle.queue.proofs.empty.Tie as tie
-use Rattle.queue.proofs.empty.Reads as reads
-use Rattle.queue.proofs.empty.Lts as lts
 
 returns : tie.Need-returns
 unfolding padded

@@ -13,9 +13,6 @@ use Rattle.lists.specs.Lists.{distinct}
 use Rattle.kinds.specs.Limits.{mostEntries}
 use Rattle.queue.proofs.entries_once.Statement.{statement}
 use Rattle.queue.proofs.entries_once.Tie as tie
-use Rattle.queue.proofs.entries_once.Reads as reads
-use Rattle.queue.proofs.entries_once.Lts as lts
-use Rattle.queue.proofs.same_request.Reads as same-request-reads
 
 abbrev Inv-loop2 : tie.InvT-loop2
 Inv-loop2 q n i x j₀ j = (i ≤ j) × (j ≤ n) × (n ≤ mostEntries) × (length (q .slots) ≡ mostEntries) × (distinct sameRequest (take n (map entryOf (q .slots))) ≡ onceFrom (entryOf x) (slice j n (map entryOf (q .slots))) (slice i n (map entryOf (q .slots))))

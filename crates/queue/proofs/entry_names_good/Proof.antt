@@ -16,9 +16,6 @@ use Rattle.rules.specs.Control.{Entry}
 use Rattle.kinds.specs.Limits.{mostEntries}
 use Rattle.queue.proofs.entry_names_good.Statement.{statement}
 use Rattle.queue.proofs.entry_names_good.Tie as tie
-use Rattle.queue.proofs.entry_names_good.Reads as reads
-use Rattle.queue.proofs.entry_names_good.Lts as lts
-use Rattle.names.proofs.is_legal.Reads as is-legal-reads
 
 abbrev Inv-loop : tie.InvT-loop
 Inv-loop q n i₀ i = (i ≤ n) × (n ≤ mostEntries) × (length (q .slots) ≡ mostEntries) × (every (λ (e : Entry). legal (e .name)) (take n (map entryOf (q .slots))) ≡ every (λ (e : Entry). legal (e .name)) (slice i n (map entryOf (q .slots))))

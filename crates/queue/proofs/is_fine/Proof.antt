@@ -13,8 +13,6 @@ use Rattle.queue.proofs.Tests.{fine-is}
 use Rattle.kinds.specs.Limits.{longestMinor}
 use Rattle.queue.proofs.is_fine.Statement.{statement}
 use Rattle.queue.proofs.is_fine.Tie as tie
-use Rattle.queue.proofs.is_fine.Reads as reads
-use Rattle.queue.proofs.is_fine.Lts as lts
 
 abbrev Inv-loop : tie.InvT-loop
 Inv-loop b i₀ i = (i₀ ≤ i) × (i ≤ longestMinor) × (length b ≡ longestMinor) × (every (eqb 0) (drop i₀ b) ≡ every (eqb 0) (drop i b))

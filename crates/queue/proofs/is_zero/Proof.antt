@@ -5,9 +5,6 @@ use Rattle.queue.specs.Queues.{isZero}
 use borrow.Author.Needs.{needs}
 use Rattle.queue.proofs.is_zero.Statement.{statement}
 use Rattle.queue.proofs.is_zero.Tie as tie
-use Rattle.queue.proofs.is_zero.Reads as reads
-use Rattle.queue.proofs.is_zero.Lts as lts
-use Rattle.lists.proofs.same_bytes.Reads as same-bytes-reads
 
 returns : tie.Need-returns
 unfolding isZero

@@ -14,10 +14,6 @@ use borrow.Author.Tests.{ltb-true}
 use Rattle.queue.proofs.Barring.{Seeking, seek-start, seek-next, seek-end, Marked, no-marks, marked-next, marks-are}
 use Rattle.queue.proofs.lacking.Statement.{statement}
 use Rattle.queue.proofs.lacking.Tie as tie
-use Rattle.queue.proofs.lacking.Reads as reads
-use Rattle.queue.proofs.lacking.Lts as lts
-use Rattle.queue.proofs.bars.Reads as bars-reads
-use Rattle.queue.proofs.marked.Reads as marked-reads
 
 abbrev Inv-loop2 : tie.InvT-loop2
 Inv-loop2 q n m i x free₀ j₀ free j = (j ≤ i) × (i < n) × (n ≤ mostEntries) × (length (q .slots) ≡ mostEntries) × Seeking (q .slots) (entryOf x) i j free

@@ -5,11 +5,8 @@ use borrow.Author.Needs.{needs}
 use lib.ListN.{length}
 use Rattle.lists.specs.Arrays.{mapped-length}
 use Rattle.queue.proofs.Barring.{mark-kept, mark-past, mark-set}
-use borrow.Author.Needs.{needs}
 use Rattle.queue.proofs.marked.Statement.{statement}
 use Rattle.queue.proofs.marked.Tie as tie
-use Rattle.queue.proofs.marked.Reads as reads
-use Rattle.queue.proofs.marked.Lts as lts
 
 returns : tie.Need-returns
 returns c = mark-kept ((c .before .args) .m) ((c .before .args) .t .0) _ ((c .if1) .taken)

@@ -6,10 +6,6 @@ use Rattle.queue.proofs.Tests.{packed-is}
 use borrow.Author.Needs.{needs}
 use Rattle.queue.proofs.packed.Statement.{statement}
 use Rattle.queue.proofs.packed.Tie as tie
-use Rattle.queue.proofs.packed.Reads as reads
-use Rattle.queue.proofs.packed.Lts as lts
-use Rattle.queue.proofs.all_fine.Reads as all-fine-reads
-use Rattle.queue.proofs.rest_zero.Reads as rest-zero-reads
 
 returns : tie.Need-returns
 unfolding packedb

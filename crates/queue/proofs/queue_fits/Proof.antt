@@ -4,8 +4,6 @@ use Rattle.lists.specs.Arrays.{mapped-length}
 use Rattle.queue.proofs.Tests.{fits-is}
 use Rattle.queue.proofs.queue_fits.Statement.{statement}
 use Rattle.queue.proofs.queue_fits.Tie as tie
-use Rattle.queue.proofs.queue_fits.Reads as reads
-use Rattle.queue.proofs.queue_fits.Lts as lts
 
 returns : tie.Need-returns
 returns c = fits-is ((c .args) .q) (search (needs, mapped-length))

@@ -11,9 +11,6 @@ use Rattle.queue.specs.Queues.{isZero, restZero}
 use Rattle.kinds.specs.Limits.{mostEntries}
 use Rattle.queue.proofs.rest_zero.Statement.{statement}
 use Rattle.queue.proofs.rest_zero.Tie as tie
-use Rattle.queue.proofs.rest_zero.Reads as reads
-use Rattle.queue.proofs.rest_zero.Lts as lts
-use Rattle.queue.proofs.is_zero.Reads as is-zero-reads
 
 abbrev Inv-loop : tie.InvT-loop
 Inv-loop q i₀ i = (q .count ≤ i) × (i ≤ mostEntries) × (length (q .slots) ≡ mostEntries) × (every isZero (drop (q .count) (q .slots)) ≡ every isZero (drop i (q .slots)))

@@ -3,9 +3,6 @@ use borrow.Author.Tests.{eq-eqb, ne-eqb}
 use borrow.Author.Needs.{needs}
 use Rattle.queue.proofs.same_request.Statement.{statement}
 use Rattle.queue.proofs.same_request.Tie as tie
-use Rattle.queue.proofs.same_request.Reads as reads
-use Rattle.queue.proofs.same_request.Lts as lts
-use Rattle.names.proofs.same_name.Reads as same-name-reads
 
 returns : tie.Need-returns
 returns c = rw (ne-eqb _ _ ((c .if1) .taken))

@@ -1,0 +1,40 @@
+
+use borrow.Author.Needs.{needs}
+use Rattle.soundness.proofs.areas_good.Statement.{statement}
+use Rattle.soundness.proofs.areas_good.Tie as tie
+use Rattle.soundness.proofs.areas_good.Reads as reads
+use Rattle.soundness.proofs.areas_good.Lts as lts
+use Rattle.holdings.proofs.owners_good.Reads as owners-good-reads
+use Rattle.storage.proofs.areas_apart.Reads as areas-apart-reads
+use Rattle.storage.proofs.areas_fit.Reads as areas-fit-reads
+use Rattle.storage.proofs.areas_rise.Reads as areas-rise-reads
+use Rattle.storage.proofs.shapes_good.Reads as shapes-good-reads
+
+areas-fit-requires : tie.Need-areas-fit-requires
+areas-fit-requires c κs = search needs
+
+shapes-good-requires : tie.Need-shapes-good-requires
+shapes-good-requires c κs = search needs
+
+owners-good-requires : tie.Need-owners-good-requires
+owners-good-requires c κs = search needs
+
+areas-rise-requires : tie.Need-areas-rise-requires
+areas-rise-requires c κs = search needs
+
+areas-apart-requires : tie.Need-areas-apart-requires
+areas-apart-requires c κs = search needs
+
+returns : tie.Need-returns
+returns c = rw ((c .before .before .before .before .areas-fit) .ensures, (c .before .before .before .shapes-good) .ensures, (c .before .before .owners-good) .ensures, (c .before .areas-rise) .ensures, (c .areas-apart) .ensures)
+
+pub areas-good-spec : {M : Type 1} → statement M
+areas-good-spec =
+    tie.close
+    (tie.spec
+    areas-fit-requires
+    shapes-good-requires
+    owners-good-requires
+    areas-rise-requires
+    areas-apart-requires
+    returns)

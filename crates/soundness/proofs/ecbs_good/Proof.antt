@@ -1,0 +1,25 @@
+
+use borrow.Author.Needs.{needs}
+use Rattle.soundness.proofs.ecbs_good.Statement.{statement}
+use Rattle.soundness.proofs.ecbs_good.Tie as tie
+use Rattle.soundness.proofs.ecbs_good.Reads as reads
+use Rattle.soundness.proofs.ecbs_good.Lts as lts
+use Rattle.events.proofs.words_good.Reads as words-good-reads
+use Rattle.signals.proofs.needs_good.Reads as needs-good-reads
+use Rattle.signals.proofs.waiters_good.Reads as waiters-good-reads
+
+waiters-good-requires : tie.Need-waiters-good-requires
+waiters-good-requires c κs = search needs
+
+needs-good-requires : tie.Need-needs-good-requires
+needs-good-requires c κs = search needs
+
+words-good-requires : tie.Need-words-good-requires
+words-good-requires c κs = search needs
+
+returns : tie.Need-returns
+returns c = rw ((c .before .before .waiters-good) .ensures, (c .before .needs-good) .ensures, (c .words-good) .ensures)
+
+pub ecbs-good-spec : {M : Type 1} → statement M
+ecbs-good-spec =
+    tie.close (tie.spec waiters-good-requires needs-good-requires words-good-requires returns)

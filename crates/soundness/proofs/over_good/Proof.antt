@@ -1,0 +1,46 @@
+use Rattle.soundness.specs.Rules.{ended}
+use borrow.Author.Needs.{needs}
+use Rattle.soundness.proofs.over_good.Statement.{statement}
+use Rattle.soundness.proofs.over_good.Tie as tie
+use Rattle.soundness.proofs.over_good.Reads as reads
+use Rattle.soundness.proofs.over_good.Lts as lts
+use Rattle.events.proofs.all_zero.Reads as all-zero-reads
+use Rattle.family.proofs.sound.all_zero.Reads as sound-all-zero-reads
+use Rattle.kinds.proofs.tasks.Task.code_good.Reads as code-good-reads
+use Rattle.soundness.proofs.no_area.Reads as no-area-reads
+use Rattle.soundness.proofs.no_entry.Reads as no-entry-reads
+use Rattle.soundness.proofs.sizes_good.Reads as sizes-good-reads
+
+sizes-good-requires : tie.Need-sizes-good-requires
+sizes-good-requires c κs = search needs
+
+code-good-requires : tie.Need-code-good-requires
+code-good-requires c κs = search needs
+
+all-zero-requires : tie.Need-all-zero-requires
+all-zero-requires c κs = search needs
+
+no-entry-requires : tie.Need-no-entry-requires
+no-entry-requires c κs = search needs
+
+all-zero-requires-2 : tie.Need-all-zero-requires-2
+all-zero-requires-2 c κs = search needs
+
+no-area-requires : tie.Need-no-area-requires
+no-area-requires c κs = search needs
+
+returns : tie.Need-returns
+unfolding ended
+returns c = rw ((c .before .before .before .before .before .sizes-good) .ensures, (c .before .before .before .before .code-good) .ensures, (c .before .before .before .all-zero) .ensures, (c .before .before .no-entry) .ensures, (c .before .all-zero2) .ensures, (c .no-area) .ensures)
+
+pub over-good-spec : {M : Type 1} → statement M
+over-good-spec =
+    tie.close
+    (tie.spec
+    sizes-good-requires
+    code-good-requires
+    all-zero-requires
+    no-entry-requires
+    all-zero-requires-2
+    no-area-requires
+    returns)

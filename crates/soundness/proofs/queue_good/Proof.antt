@@ -1,0 +1,40 @@
+
+use borrow.Author.Needs.{needs}
+use Rattle.soundness.proofs.queue_good.Statement.{statement}
+use Rattle.soundness.proofs.queue_good.Tie as tie
+use Rattle.soundness.proofs.queue_good.Reads as reads
+use Rattle.soundness.proofs.queue_good.Lts as lts
+use Rattle.locks.proofs.entries_live.Reads as entries-live-reads
+use Rattle.locks.proofs.waits_good.Reads as waits-good-reads
+use Rattle.queue.proofs.entries_once.Reads as entries-once-reads
+use Rattle.queue.proofs.entry_names_good.Reads as entry-names-good-reads
+use Rattle.queue.proofs.queue_fits.Reads as queue-fits-reads
+
+queue-fits-requires : tie.Need-queue-fits-requires
+queue-fits-requires c κs = search needs
+
+entries-live-requires : tie.Need-entries-live-requires
+entries-live-requires c κs = search needs
+
+entries-once-requires : tie.Need-entries-once-requires
+entries-once-requires c κs = search needs
+
+entry-names-good-requires : tie.Need-entry-names-good-requires
+entry-names-good-requires c κs = search needs
+
+waits-good-requires : tie.Need-waits-good-requires
+waits-good-requires c κs = search needs
+
+returns : tie.Need-returns
+returns c = rw ((c .before .before .before .before .queue-fits) .ensures, (c .before .before .before .entries-live) .ensures, (c .before .before .entries-once) .ensures, (c .before .entry-names-good) .ensures, (c .waits-good) .ensures)
+
+pub queue-good-spec : {M : Type 1} → statement M
+queue-good-spec =
+    tie.close
+    (tie.spec
+    queue-fits-requires
+    entries-live-requires
+    entries-once-requires
+    entry-names-good-requires
+    waits-good-requires
+    returns)

@@ -1,0 +1,41 @@
+use Rattle.soundness.specs.Rules.{running}
+use borrow.Author.Needs.{needs}
+use Rattle.soundness.proofs.running_good.Statement.{statement}
+use Rattle.soundness.proofs.running_good.Tie as tie
+use Rattle.soundness.proofs.running_good.Reads as reads
+use Rattle.soundness.proofs.running_good.Lts as lts
+use Rattle.soundness.proofs.areas_good.Reads as areas-good-reads
+use Rattle.soundness.proofs.ecbs_good.Reads as ecbs-good-reads
+use Rattle.soundness.proofs.queue_good.Reads as queue-good-reads
+use Rattle.soundness.proofs.sizes_good.Reads as sizes-good-reads
+use Rattle.soundness.proofs.tasks_good.Reads as tasks-good-reads
+
+sizes-good-requires : tie.Need-sizes-good-requires
+sizes-good-requires c κs = search needs
+
+tasks-good-requires : tie.Need-tasks-good-requires
+tasks-good-requires c κs = search needs
+
+queue-good-requires : tie.Need-queue-good-requires
+queue-good-requires c κs = search needs
+
+ecbs-good-requires : tie.Need-ecbs-good-requires
+ecbs-good-requires c κs = search needs
+
+areas-good-requires : tie.Need-areas-good-requires
+areas-good-requires c κs = search needs
+
+returns : tie.Need-returns
+unfolding running
+returns c = rw ((c .before .before .before .before .sizes-good) .ensures, (c .before .before .before .tasks-good) .ensures, (c .before .before .queue-good) .ensures, (c .before .ecbs-good) .ensures, (c .areas-good) .ensures)
+
+pub running-good-spec : {M : Type 1} → statement M
+running-good-spec =
+    tie.close
+    (tie.spec
+    sizes-good-requires
+    tasks-good-requires
+    queue-good-requires
+    ecbs-good-requires
+    areas-good-requires
+    returns)

@@ -1,0 +1,20 @@
+
+use borrow.Author.Needs.{needs}
+use Rattle.soundness.proofs.sizes_good.Statement.{statement}
+use Rattle.soundness.proofs.sizes_good.Tie as tie
+use Rattle.soundness.proofs.sizes_good.Reads as reads
+use Rattle.soundness.proofs.sizes_good.Lts as lts
+use Rattle.events.proofs.ecbs_fit.Reads as ecbs-fit-reads
+use Rattle.family.proofs.sound.tasks_fit.Reads as tasks-fit-reads
+
+tasks-fit-requires : tie.Need-tasks-fit-requires
+tasks-fit-requires c κs = search needs
+
+ecbs-fit-requires : tie.Need-ecbs-fit-requires
+ecbs-fit-requires c κs = search needs
+
+returns : tie.Need-returns
+returns c = rw ((c .before .tasks-fit) .ensures, (c .ecbs-fit) .ensures)
+
+pub sizes-good-spec : {M : Type 1} → statement M
+sizes-good-spec = tie.close (tie.spec tasks-fit-requires ecbs-fit-requires returns)

@@ -1,0 +1,45 @@
+
+use borrow.Author.Needs.{needs}
+use Rattle.soundness.proofs.tasks_good.Statement.{statement}
+use Rattle.soundness.proofs.tasks_good.Tie as tie
+use Rattle.soundness.proofs.tasks_good.Reads as reads
+use Rattle.soundness.proofs.tasks_good.Lts as lts
+use Rattle.family.proofs.sound.ended_tasks_good.Reads as ended-tasks-good-reads
+use Rattle.family.proofs.sound.free_places_good.Reads as free-places-good-reads
+use Rattle.family.proofs.sound.job_step_good.Reads as job-step-good-reads
+use Rattle.family.proofs.sound.mothers_good.Reads as mothers-good-reads
+use Rattle.family.proofs.sound.priorities_good.Reads as priorities-good-reads
+use Rattle.family.proofs.sound.task_ecbs_good.Reads as task-ecbs-good-reads
+
+job-step-good-requires : tie.Need-job-step-good-requires
+job-step-good-requires c κs = search needs
+
+mothers-good-requires : tie.Need-mothers-good-requires
+mothers-good-requires c κs = search needs
+
+priorities-good-requires : tie.Need-priorities-good-requires
+priorities-good-requires c κs = search needs
+
+task-ecbs-good-requires : tie.Need-task-ecbs-good-requires
+task-ecbs-good-requires c κs = search needs
+
+ended-tasks-good-requires : tie.Need-ended-tasks-good-requires
+ended-tasks-good-requires c κs = search needs
+
+free-places-good-requires : tie.Need-free-places-good-requires
+free-places-good-requires c κs = search needs
+
+returns : tie.Need-returns
+returns c = rw ((c .before .before .before .before .before .job-step-good) .ensures, (c .before .before .before .before .mothers-good) .ensures, (c .before .before .before .priorities-good) .ensures, (c .before .before .task-ecbs-good) .ensures, (c .before .ended-tasks-good) .ensures, (c .free-places-good) .ensures)
+
+pub tasks-good-spec : {M : Type 1} → statement M
+tasks-good-spec =
+    tie.close
+    (tie.spec
+    job-step-good-requires
+    mothers-good-requires
+    priorities-good-requires
+    task-ecbs-good-requires
+    ended-tasks-good-requires
+    free-places-good-requires
+    returns)

@@ -1,0 +1,39 @@
+-- The rules of sound tables by the table that they speak of, over the lists that the tables stand for. Assumes nothing.
+use Prim.Native.Nat.{ℕ}
+use mathlib.Core.Bool.{Bool, _&&_}
+use mathlib.Core.List.{List}
+use lib.Dec.{eqb}
+use Rattle.lists.specs.Lists.{every, none}
+use Rattle.kinds.specs.Ranges.{endCodeGood}
+use Rattle.kinds.specs.declared.tasks.Task.{Task}
+use Rattle.kinds.specs.declared.ecbs.Ecb.{Ecb}
+use Rattle.kinds.specs.declared.areas.Area.{Area}
+use Rattle.rules.specs.Control.{Entry}
+use Rattle.rules.specs.SoundTasks.{tasksFit, jobStepGood, mothersGood, prioritiesGood, taskEcbsGood, endedTasksGood, freePlacesGood, zeroTask}
+use Rattle.rules.specs.SoundQueue.{queueFits, entriesLive, entriesOnce, entryNamesGood, waitsGood}
+use Rattle.rules.specs.SoundEcbs.{ecbsFit, waitersGood, needsGood, ecbWordsGood, zeroEcb}
+use Rattle.rules.specs.SoundAreas.{areasFit, areaShapesGood, areaOwnersGood, areasRise, areasApart}
+
+abbrev pub tasksGood : List Task → Bool
+tasksGood ts = jobStepGood ts && (mothersGood ts && (prioritiesGood ts && (taskEcbsGood ts && (endedTasksGood ts && freePlacesGood ts))))
+
+abbrev pub queueGood : List Task → List Entry → Bool
+queueGood ts q = queueFits q && (entriesLive ts q && (entriesOnce q && (entryNamesGood q && waitsGood q ts)))
+
+abbrev pub ecbsGood : List Task → List Ecb → Bool
+ecbsGood ts es = waitersGood ts es && (needsGood es ts && ecbWordsGood es)
+
+abbrev pub areasGood : List Task → List Area → Bool
+areasGood ts l = areasFit l && (areaShapesGood l && (areaOwnersGood ts l && (areasRise l && areasApart l)))
+
+-- how many places there are
+abbrev pub sizesGood : List Task → List Ecb → Bool
+sizesGood ts es = tasksFit ts && ecbsFit es
+
+-- of a step that runs
+unfoldable pub running : ℕ → List Task → List Entry → List Ecb → List Area → Bool
+running code ts q es l = sizesGood ts es && (eqb code 0 && (tasksGood ts && (queueGood ts q && (ecbsGood ts es && areasGood ts l))))
+
+-- of a step that is over
+unfoldable pub ended : ℕ → List Task → List Entry → List Ecb → List Area → Bool
+ended code ts q es l = sizesGood ts es && (endCodeGood code && (every zeroTask ts && (none q && (every zeroEcb es && none l))))

@@ -1,0 +1,112 @@
+// The rules of sound tables, over all of the tables.
+use events::Events;
+use family::Family;
+use kinds::Task;
+use queue::Queue;
+use storage::Storage;
+ghost use mathlib.Core.Path.{_≡_};
+ghost use Prim.Native.Nat.{_≤_};
+ghost use Rattle.lists.specs.Lists.{none};
+ghost use Rattle.kinds.specs.Limits.{mostEntries, mostAreas};
+ghost use Rattle.queue.specs.Queues.{live};
+ghost use Rattle.storage.specs.Stored.{live as liveAreas};
+ghost use Rattle.soundness.specs.Rules.{tasksGood, queueGood, ecbsGood, areasGood, sizesGood, running, ended};
+
+// The rules on the task table alone.
+pub fn tasks_good(f: Family) -> bool
+    ensures { λ r. ⌜ r ≡ tasksGood (f .places) ⌝ }
+{
+    let a = family::sound::job_step_good(f);
+    let b = family::sound::mothers_good(f);
+    let d = family::sound::priorities_good(f);
+    let e = family::sound::task_ecbs_good(f);
+    let g = family::sound::ended_tasks_good(f);
+    let h = family::sound::free_places_good(f);
+    a & (b & (d & (e & (g & h))))
+}
+
+// The rules on entries and resource waits.
+pub fn queue_good(q: Queue, f: Family) -> bool
+    requires { ⌜ q .count ≤ mostEntries ⌝ }
+    ensures { λ r. ⌜ r ≡ queueGood (f .places) (live q) ⌝ }
+{
+    let a = queue::queue_fits(q);
+    let b = locks::entries_live(q, f);
+    let d = queue::entries_once(q);
+    let e = queue::entry_names_good(q);
+    let g = locks::waits_good(q, f);
+    a & (b & (d & (e & g)))
+}
+
+// The rules on ECBs and ECB waits.
+pub fn ecbs_good(e: Events, f: Family) -> bool
+    ensures { λ r. ⌜ r ≡ ecbsGood (f .places) (e .ecbs) ⌝ }
+{
+    let a = signals::waiters_good(e, f);
+    let b = signals::needs_good(e, f);
+    let d = events::words_good(e);
+    a & (b & d)
+}
+
+// The rules on areas.
+pub fn areas_good(s: Storage, f: Family) -> bool
+    requires { ⌜ s .count ≤ mostAreas ⌝ }
+    ensures { λ r. ⌜ r ≡ areasGood (f .places) (liveAreas s) ⌝ }
+{
+    let a = storage::areas_fit(s);
+    let b = storage::shapes_good(s);
+    let d = holdings::owners_good(s, f);
+    let e = storage::areas_rise(s);
+    let g = storage::areas_apart(s);
+    a & (b & (d & (e & g)))
+}
+
+// How many places there are.
+fn sizes_good(f: Family, e: Events) -> bool
+    ensures { λ r. ⌜ r ≡ sizesGood (f .places) (e .ecbs) ⌝ }
+{
+    let a = family::sound::tasks_fit(f);
+    let b = events::ecbs_fit(e);
+    a & b
+}
+
+fn no_entry(q: Queue) -> bool
+    requires { ⌜ q .count ≤ mostEntries ⌝ }
+    ensures { λ r. ⌜ r ≡ none (live q) ⌝ }
+{
+    q.count == 0
+}
+
+fn no_area(s: Storage) -> bool
+    requires { ⌜ s .count ≤ mostAreas ⌝ }
+    ensures { λ r. ⌜ r ≡ none (liveAreas s) ⌝ }
+{
+    s.count == 0
+}
+
+// The rules on a step that runs.
+pub fn running_good(code: u16, f: Family, q: Queue, e: Events, s: Storage) -> bool
+    requires { ⌜ (q .count ≤ mostEntries) × (s .count ≤ mostAreas) ⌝ }
+    ensures { λ r. ⌜ r ≡ running code (f .places) (live q) (e .ecbs) (liveAreas s) ⌝ }
+{
+    let a = sizes_good(f, e);
+    let b = tasks_good(f);
+    let d = queue_good(q, f);
+    let g = ecbs_good(e, f);
+    let h = areas_good(s, f);
+    a & ((code == 0) & (b & (d & (g & h))))
+}
+
+// "A step that is over has empty tables."
+pub fn over_good(code: u16, f: Family, q: Queue, e: Events, s: Storage) -> bool
+    requires { ⌜ (q .count ≤ mostEntries) × (s .count ≤ mostAreas) ⌝ }
+    ensures { λ r. ⌜ r ≡ ended code (f .places) (live q) (e .ecbs) (liveAreas s) ⌝ }
+{
+    let a = sizes_good(f, e);
+    let b = Task::code_good(code);
+    let d = family::sound::all_zero(f);
+    let g = no_entry(q);
+    let h = events::all_zero(e);
+    let i = no_area(s);
+    a & (b & (d & (g & (h & i))))
+}

@@ -1,12 +1,24 @@
 // Areas and their owners: the storage beside the task table.
 use family::Family;
 use kinds::Area;
+use kinds::TaskNumber;
 use storage::Storage;
 ghost use mathlib.Core.Path.{_≡_};
+ghost use Rattle.lists.specs.Lists.{keep};
 ghost use Prim.Native.Nat.{_≤_};
 ghost use Rattle.kinds.specs.Limits.{mostAreas};
+ghost use Rattle.rules.specs.Family.{live as isLive};
 ghost use Rattle.rules.specs.SoundAreas.{areaOwnerGood, areaOwnersGood};
-ghost use Rattle.storage.specs.Stored.{live};
+ghost use Rattle.rules.specs.Ending.{areaStays};
+ghost use Rattle.storage.specs.Stored.{live, stored, Packed};
+
+fn is_live(f: Family, t: TaskNumber) -> bool
+    ensures { λ r. ⌜ r ≡ isLive (f .places) (t .0) ⌝ }
+{
+    let x = family::at(f, t);
+    let k = x.condition;
+    k.is_live()
+}
 
 // Of the step, in subpool 0, or else of a live task.
 pub fn owner_good(f: Family, a: Area) -> bool
@@ -16,9 +28,7 @@ pub fn owner_good(f: Family, a: Area) -> bool
     if a.subpool == 0 {
         return t.0 == 0;
     }
-    let x = family::at(f, t);
-    let k = x.condition;
-    k.is_live()
+    is_live(f, t)
 }
 
 pub fn owners_good(s: Storage, f: Family) -> bool
@@ -35,4 +45,35 @@ pub fn owners_good(s: Storage, f: Family) -> bool
         i += 1;
     }
     true
+}
+
+// Of subpool 0, or of a task that is still live.
+pub fn stays(f: Family, a: Area) -> bool
+    ensures { λ r. ⌜ r ≡ areaStays (f .places) a ⌝ }
+{
+    if a.subpool == 0 {
+        return true;
+    }
+    let t = a.owner;
+    is_live(f, t)
+}
+
+// The storage without the areas of tasks that are not live. What stays is stored here: a call would copy the table.
+pub fn sweep(s: Storage, f: Family) -> Storage
+    requires { ⌜ Packed s ⌝ }
+    ensures { λ r. ⌜ r ≡ stored (keep (areaStays (f .places)) (live s)) ⌝ }
+{
+    let n = s.count;
+    let mut r = storage::empty();
+    let mut i = 0;
+    while i < n {
+        let x = s.areas[i];
+        if stays(f, x) {
+            let at = r.count;
+            r.areas[at] = x;
+            r.count = at + 1;
+        }
+        i += 1;
+    }
+    r
 }

@@ -23,7 +23,7 @@ use Rattle.kinds.specs.declared.ecbs.Ecb.{Ecb}
 use Rattle.rules.specs.Family.{place, used, mother, chain, below, conditionOf}
 use Rattle.rules.specs.Events.{ecbAt, waitBit, posted}
 use Rattle.rules.specs.Steps.{Step, Outcome, withEcbs, overStep, done, refused}
-use Rattle.rules.specs.Fresh.{freshStep, freshOf}
+use Rattle.rules.specs.Fresh.{begunWith, freshStep, freshOf}
 use Rattle.rules.specs.Admission.{admitted, gateOf, openGate, through, settled}
 use Rattle.rules.specs.Ending.{failing}
 use Rattle.rules.specs.Clear.{clearVerdict, clearDone, clearBody, clearOf}
@@ -141,7 +141,7 @@ unfolding overStep soundStep tasksFit ecbsFit overGood zeroTask zeroEcb pick
 over-sound code h = rw h
 
 pub fresh-running : (limit dispatching : ℕ) → priorityGood limit ≡ true → leb dispatching limit ≡ true → Sound (freshStep limit dispatching)
-unfolding freshStep soundStep tasksFit ecbsFit runningGood soundTasks soundQueue soundEcbs soundAreas jobStepGood mothersGood motherGood below chain used mother place prioritiesGood taskEcbsGood endedTasksGood freePlacesGood zeroTask queueFits entriesLive entriesOnce entryNamesGood waitsGood waitGood waitersGood needsGood ecbWordsGood ecbWordGood areasFit areaShapesGood areaOwnersGood areasRise areasApart pick
+unfolding begunWith soundStep tasksFit ecbsFit runningGood soundTasks soundQueue soundEcbs soundAreas jobStepGood mothersGood motherGood below chain used mother place prioritiesGood taskEcbsGood endedTasksGood freePlacesGood zeroTask queueFits entriesLive entriesOnce entryNamesGood waitsGood waitGood waitersGood needsGood ecbWordsGood ecbWordGood areasFit areaShapesGood areaOwnersGood areasRise areasApart pick
 fresh-running limit dispatching p q = rw (p, q)
 
 pub fresh-sound : (limit dispatching : ℕ) → Sound (freshOf limit dispatching .tables)

@@ -2,14 +2,11 @@
 use events::Events;
 use family::Family;
 use kinds::Condition;
-use kinds::Ecb;
 use kinds::EcbNumber;
-use kinds::Task;
 use kinds::TaskNumber;
 ghost use mathlib.Core.Path.{_≡_};
 ghost use Prim.Native.Nat.{_≤_, _<_};
-ghost use Rattle.kinds.specs.Tasks.{inEcbWait, withCondition};
-ghost use Rattle.rules.specs.Family.{withPlace};
+ghost use Rattle.kinds.specs.Tasks.{inEcbWait};
 ghost use Rattle.rules.specs.Events.{onePostFewer, bitsLeft, comesTo, woken as wokenOf, signalled};
 ghost use Rattle.rules.specs.SoundEcbs.{waitersGood, needGood, needsGood};
 ghost use Rattle.events.specs.Blocks.{eventsOf};
@@ -132,25 +129,25 @@ fn comes_to(e: Events, f: Family, w: TaskNumber, k: Condition) -> Signals
 }
 
 // A waiter that has no place cannot change.
-fn woken(e: Events, f: Family, w: TaskNumber) -> Signals
-    ensures { λ r. ⌜ r ≡ signalsOf (wokenOf (f .places) (e .ecbs) (w .0)) ⌝ }
+fn woken(d: Events, f: Family, w: TaskNumber) -> Signals
+    ensures { λ r. ⌜ r ≡ signalsOf (wokenOf (f .places) (d .ecbs) (w .0)) ⌝ }
 {
     if w.0 == 0 {
         return Signals {
-            events: e,
+            events: d,
             family: f,
         };
     }
     if TaskNumber::HIGHEST < w.0 {
         return Signals {
-            events: e,
+            events: d,
             family: f,
         };
     }
     let x = family::at(f, w);
     let now = x.condition;
     let k = one_post_fewer(now);
-    comes_to(e, f, w, k)
+    comes_to(d, f, w, k)
 }
 
 // A complete ECB stays as it is.
@@ -159,14 +156,14 @@ pub fn post(e: Events, f: Family, n: EcbNumber, code: u32) -> Signals
     ensures { λ r. ⌜ r ≡ signalsOf (signalled (f .places) (e .ecbs) (n .0) code) ⌝ }
 {
     let old = events::at(e, n);
+    let x = events::completed(code);
+    let next = events::with_ecb(e, n, x);
     if old.complete {
         return Signals {
             events: e,
             family: f,
         };
     }
-    let x = events::completed(code);
-    let next = events::with_ecb(e, n, x);
     let w = old.waiter;
     woken(next, f, w)
 }

@@ -29,7 +29,6 @@ module _ {A : Type 0} (p : A → A → Bool) where
       one true e f = rw (h, e, f e)
       one false e f = rw (h, e) (and-false (every (p x) l))
 
-module _ {A : Type 0} (p : A → A → Bool) where
   pub pairs-end : (i n : ℕ) (l : List A) → i ≡ n → pairwise p (slice i n l) ≡ true
   pairs-end i n l e = rw e (ap (pairwise p) (slice-empty n l))
 
@@ -72,10 +71,10 @@ module _ {A : Type 0} (p : A → A → Bool) where
     neighbours-fail e = ap (pairwise p) two ∙ rw e
 
     -- of a transitive test neighbours are enough
-    pub neighbours-go : Chains p → p (getD l (i - 1) d) (getD l i d) ≡ true → pairwise p (slice (i - 1) n l) ≡ pairwise p (slice ((i + 1) - 1) n l)
+    pub neighbours-go : Chains → p (getD l (i - 1) d) (getD l i d) ≡ true → pairwise p (slice (i - 1) n l) ≡ pairwise p (slice ((i + 1) - 1) n l)
     neighbours-go chain e =
         let f : i ≡ (i + 1) - 1 = omega arith in
         ap (pairwise p) two
-        ∙ from-first p chain (getD l (i - 1) d) (getD l i d) (slice (i + 1) n l) e
+        ∙ from-first chain (getD l (i - 1) d) (getD l i d) (slice (i + 1) n l) e
         ∙ ap (pairwise p) (sym (slice-next i n l d h k))
         ∙ ap (λ (m : ℕ). pairwise p (slice m n l)) f

@@ -3,10 +3,13 @@ use kinds::Address;
 use kinds::Area;
 use kinds::Place;
 ghost use mathlib.Core.Path.{_≡_};
+ghost use mathlib.Core.Bool.{not};
 ghost use mathlib.Core.List.{[]};
 ghost use Prim.Native.Nat.{_+_, _-_, _≤_, _<_};
 ghost use lib.Seq.{slice};
+ghost use Rattle.lists.specs.Lists.{some, keep};
 ghost use Rattle.kinds.specs.Limits.{mostAreas};
+ghost use Rattle.kinds.specs.declared.areas.Area.{Area};
 ghost use Rattle.rules.specs.Storage.{startOf, endOf, oneHolder, bytesApart, firstPage, pastPage, pagesApart, apart as apartOf, sameArea, permitted as permittedBy, placedAt, lowest as lowestOf, insertedIn};
 ghost use Rattle.rules.specs.SoundAreas.{areasFit, areaShapeGood, areaShapesGood, areasRise, areasApart};
 ghost use Rattle.storage.specs.Stored.{stored, live, Packed, isZero, restZero, packedb};
@@ -28,7 +31,7 @@ pub fn empty() -> Storage
     }
 }
 
-// Ends are wider than addresses: tables may hold any numbers, and their sums overflow.
+// In u64, since a table may hold any numbers and the sum of two u32 can overflow.
 fn start_of(a: Area) -> u64
     ensures { λ r. ⌜ r ≡ startOf a ⌝ }
 {
@@ -184,7 +187,7 @@ pub fn shapes_good(s: Storage) -> bool
     true
 }
 
-// Each area starts above the one before it, and so above all before it.
+// Each area starts above the one before it, and so above all before it: neighbours are enough.
 pub fn areas_rise(s: Storage) -> bool
     requires { ⌜ s .count ≤ mostAreas ⌝ }
     ensures { λ r. ⌜ r ≡ areasRise (live s) ⌝ }
@@ -202,6 +205,7 @@ pub fn areas_rise(s: Storage) -> bool
     true
 }
 
+// Each area against those behind it.
 pub fn areas_apart(s: Storage) -> bool
     requires { ⌜ s .count ≤ mostAreas ⌝ }
     ensures { λ r. ⌜ r ≡ areasApart (live s) ⌝ }
@@ -336,4 +340,41 @@ pub fn insert(s: Storage, a: Area) -> Storage
 {
     let at = rank(s, a);
     insert_at(s, at, a)
+}
+
+// The area stands in the storage.
+pub fn has_area(s: Storage, a: Area) -> bool
+    requires { ⌜ s .count ≤ mostAreas ⌝ }
+    ensures { λ r. ⌜ r ≡ some (sameArea a) (live s) ⌝ }
+{
+    let n = s.count;
+    let mut i = 0;
+    while i < n {
+        let x = s.areas[i];
+        if same_area(a, x) {
+            return true;
+        }
+        i += 1;
+    }
+    false
+}
+
+// The storage without the area. What stays is stored here: a call would copy the table.
+pub fn without(s: Storage, a: Area) -> Storage
+    requires { ⌜ Packed s ⌝ }
+    ensures { λ r. ⌜ r ≡ stored (keep (λ (b : Area). not (sameArea a b)) (live s)) ⌝ }
+{
+    let n = s.count;
+    let mut r = empty();
+    let mut i = 0;
+    while i < n {
+        let x = s.areas[i];
+        if !same_area(a, x) {
+            let at = r.count;
+            r.areas[at] = x;
+            r.count = at + 1;
+        }
+        i += 1;
+    }
+    r
 }

@@ -1,31 +1,24 @@
-use Prim.Native.Nat.{_-_}
-use mathlib.Core.Path.{sym, ap, _∙_}
+use mathlib.Core.Path.{sym, _∙_}
 use borrow.Author.Needs.{needs}
 use borrow.Author.Tests.{eq-eqb, ne-eqb}
 use Rattle.lists.specs.Pick.{pick-true, pick-false}
-use Rattle.kinds.specs.Tasks.{isLive}
-use Rattle.kinds.specs.declared.tasks.Task.{Task}
 use Rattle.rules.specs.SoundAreas.{areaOwnerGood}
 use Rattle.holdings.proofs.owner_good.Statement.{statement}
 use Rattle.holdings.proofs.owner_good.Tie as tie
 use Rattle.holdings.proofs.owner_good.Reads as reads
 use Rattle.holdings.proofs.owner_good.Lts as lts
-use Rattle.family.proofs.at.Reads as at-reads
-use Rattle.kinds.proofs.tasks.Condition.is_live.Reads as is-live-reads
+use Rattle.holdings.proofs.is_live.Reads as is-live-reads
 
 returns : tie.Need-returns
 unfolding areaOwnerGood
 returns c = sym (pick-true _ _ _ (eq-eqb _ _ (c .before .if1 .taken)))
-
-at-requires : tie.Need-at-requires
-at-requires c κs = search needs
 
 is-live-requires : tie.Need-is-live-requires
 is-live-requires c κs = search needs
 
 returns-2 : tie.Need-returns-2
 unfolding areaOwnerGood
-returns-2 c = c .is-live .ensures ∙ ap (λ (x : Task). isLive (x .condition)) (c .before .at .ensures) ∙ sym (pick-false _ _ _ (ne-eqb _ _ (c .before .before .if1 .left)))
+returns-2 c = c .is-live .ensures ∙ sym (pick-false _ _ _ (ne-eqb _ _ (c .before .if1 .left)))
 
 pub owner-good-spec : {M : Type 1} → statement M
-owner-good-spec = tie.close (tie.spec returns at-requires is-live-requires returns-2)
+owner-good-spec = tie.close (tie.spec returns is-live-requires returns-2)

@@ -19,15 +19,15 @@ use Rattle.signals.proofs.woken.Reads as woken-reads
 at-requires : tie.Need-at-requires
 at-requires c κs = search needs
 
-returns : tie.Need-returns
-unfolding signalsOf
-returns c = ap signalsOf (signalled-complete ((c .before .before .args) .f .places) ((c .before .before .args) .e .ecbs) ((c .before .before .args) .n .0) ((c .before .before .args) .code) (ap (λ (x : Ecb). x .complete) (sym ((c .before .at) .ensures)) ∙ (c .if1) .taken))
-
 completed-requires : tie.Need-completed-requires
 completed-requires c κs = search needs
 
 with-ecb-requires : tie.Need-with-ecb-requires
 with-ecb-requires c κs = search needs
+
+returns : tie.Need-returns
+unfolding signalsOf
+returns c = ap signalsOf (signalled-complete ((c .before .before .before .before .args) .f .places) ((c .before .before .before .before .args) .e .ecbs) ((c .before .before .before .before .args) .n .0) ((c .before .before .before .before .args) .code) (ap (λ (x : Ecb). x .complete) (sym ((c .before .before .before .at) .ensures)) ∙ (c .if1) .taken))
 
 woken-requires : tie.Need-woken-requires
 woken-requires c κs = search needs
@@ -37,12 +37,12 @@ returns-2 c =
     let ts = (c .before .before .before .before .before .before .args) .f .places in
     let es = (c .before .before .before .before .before .before .args) .e .ecbs in
     (c .woken) .ensures
-    ∙ ap (λ (l : Events). signalsOf (woken ts (l .ecbs) ((c .before .before .before .before .before .at) .result .waiter .0))) ((c .before .before .with-ecb) .ensures)
-    ∙ ap (λ (x : Ecb). signalsOf (woken ts (set es ((c .before .before .before .before .before .before .args) .n .0) x) ((c .before .before .before .before .before .at) .result .waiter .0))) ((c .before .before .before .completed) .ensures)
+    ∙ ap (λ (l : Events). signalsOf (woken ts (l .ecbs) ((c .before .before .before .before .before .at) .result .waiter .0))) ((c .before .before .before .with-ecb) .ensures)
+    ∙ ap (λ (x : Ecb). signalsOf (woken ts (set es ((c .before .before .before .before .before .before .args) .n .0) x) ((c .before .before .before .before .before .at) .result .waiter .0))) ((c .before .before .before .before .completed) .ensures)
     ∙ ap (λ (x : Ecb). signalsOf (woken ts (set es ((c .before .before .before .before .before .before .args) .n .0) (completed ((c .before .before .before .before .before .before .args) .code))) (x .waiter .0))) ((c .before .before .before .before .before .at) .ensures)
-    ∙ ap signalsOf (signalled-new ts es ((c .before .before .before .before .before .before .args) .n .0) ((c .before .before .before .before .before .before .args) .code) (ap (λ (x : Ecb). x .complete) (sym ((c .before .before .before .before .before .at) .ensures)) ∙ (c .before .before .before .before .if1) .left))
+    ∙ ap signalsOf (signalled-new ts es ((c .before .before .before .before .before .before .args) .n .0) ((c .before .before .before .before .before .before .args) .code) (ap (λ (x : Ecb). x .complete) (sym ((c .before .before .before .before .before .at) .ensures)) ∙ (c .before .before .if1) .left))
 
 pub post-spec : {M : Type 1} → statement M
 post-spec =
     tie.close
-    (tie.spec at-requires returns completed-requires with-ecb-requires woken-requires returns-2)
+    (tie.spec at-requires completed-requires with-ecb-requires returns woken-requires returns-2)

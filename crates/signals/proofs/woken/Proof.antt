@@ -19,13 +19,13 @@ use Rattle.signals.proofs.one_post_fewer.Reads as one-post-fewer-reads
 
 returns : tie.Need-returns
 unfolding signalsOf
-returns c = ap signalsOf (woken-none ((c .before .before .args) .f .places) ((c .before .before .args) .e .ecbs) ((c .before .before .args) .w .0) ((c .if1) .taken))
+returns c = ap signalsOf (woken-none ((c .before .before .args) .f .places) ((c .before .before .args) .d .ecbs) ((c .before .before .args) .w .0) ((c .if1) .taken))
 
 returns-2 : tie.Need-returns-2
 unfolding signalsOf
 returns-2 c =
     let h : length ((c .before .before .before .before .args) .f .places) ≡ 32 = search (needs, mapped-length) in
-    ap signalsOf (woken-past ((c .before .before .before .before .args) .f .places) ((c .before .before .before .before .args) .e .ecbs) ((c .before .before .before .before .args) .w .0) (omega arith))
+    ap signalsOf (woken-past ((c .before .before .before .before .args) .f .places) ((c .before .before .before .before .args) .d .ecbs) ((c .before .before .before .before .args) .w .0) (omega arith))
 
 at-requires : tie.Need-at-requires
 at-requires c κs = search needs
@@ -39,9 +39,9 @@ comes-to-requires c κs = (omega arith, omega arith)
 returns-3 : tie.Need-returns-3
 returns-3 c =
     (c .comes-to) .ensures
-    ∙ ap (λ (k : Condition). signalsOf (comesTo ((c .before .before .before .before .before .before .before .args) .f .places) ((c .before .before .before .before .before .before .before .args) .e .ecbs) ((c .before .before .before .before .before .before .before .args) .w .0) k))
+    ∙ ap (λ (k : Condition). signalsOf (comesTo ((c .before .before .before .before .before .before .before .args) .f .places) ((c .before .before .before .before .before .before .before .args) .d .ecbs) ((c .before .before .before .before .before .before .before .args) .w .0) k))
     ((c .before .one-post-fewer) .ensures ∙ ap (λ (x : Task). onePostFewer (x .condition)) ((c .before .before .at) .ensures))
-    ∙ ap signalsOf (woken-by ((c .before .before .before .before .before .before .before .args) .f .places) ((c .before .before .before .before .before .before .before .args) .e .ecbs) ((c .before .before .before .before .before .before .before .args) .w .0) (omega arith))
+    ∙ ap signalsOf (woken-by ((c .before .before .before .before .before .before .before .args) .f .places) ((c .before .before .before .before .before .before .before .args) .d .ecbs) ((c .before .before .before .before .before .before .before .args) .w .0) (omega arith))
 
 pub woken-spec : {M : Type 1} → statement M
 woken-spec =

@@ -1,0 +1,22 @@
+use mathlib.Core.Path.{ap, _∙_}
+use borrow.Author.Needs.{needs}
+use Rattle.kinds.specs.Tasks.{isLive}
+use Rattle.kinds.specs.declared.tasks.Task.{Task}
+use Rattle.holdings.proofs.is_live.Statement.{statement}
+use Rattle.holdings.proofs.is_live.Tie as tie
+use Rattle.holdings.proofs.is_live.Reads as reads
+use Rattle.holdings.proofs.is_live.Lts as lts
+use Rattle.family.proofs.at.Reads as at-reads
+use Rattle.kinds.proofs.tasks.Condition.is_live.Reads as is-live-reads
+
+at-requires : tie.Need-at-requires
+at-requires c κs = search needs
+
+is-live-requires : tie.Need-is-live-requires
+is-live-requires c κs = search needs
+
+returns : tie.Need-returns
+returns c = c .is-live .ensures ∙ ap (λ (x : Task). isLive (x .condition)) (c .before .at .ensures)
+
+pub is-live-spec : {M : Type 1} → statement M
+is-live-spec = tie.close (tie.spec at-requires is-live-requires returns)

@@ -1,0 +1,210 @@
+-- How a gate, a verdict and a change make a service's answer. Assumes nothing.
+use mathlib.Core.Path.{_≡_, refl, sym, ap, subst, _∙_}
+use mathlib.Core.Bool.{Bool, true, false}
+use mathlib.Core.List.{List}
+use Prim.Native.Nat.{ℕ}
+use lib.Dec.{eqb, leb}
+use native.Mathlib.Omega.{arith}
+use Rattle.lists.specs.Pick.{pick, chain-and}
+use Rattle.kinds.specs.Ranges.{ecbGood, postCodeGood, priorityGood}
+use Rattle.kinds.specs.Tasks.{isLive, waits}
+use Rattle.kinds.specs.declared.tasks.Task.{Task}
+use Rattle.kinds.specs.declared.ecbs.Ecb.{Ecb}
+use Rattle.kinds.specs.declared.numbers.EcbNumber.{EcbNumber}
+use Rattle.kinds.specs.declared.numbers.TaskNumber.{TaskNumber}
+use Rattle.kinds.specs.declared.replies.Refusal.{Refusal}
+use Rattle.kinds.specs.declared.replies.Refusal.the-variants.{Unsound, OutOfRange, WaitBitOn}
+use Rattle.kinds.specs.declared.replies.Gate.{Gate}
+use Rattle.kinds.specs.declared.replies.Gate.the-variants.{Open, Shut}
+use Rattle.kinds.specs.declared.replies.Verdict.{Verdict}
+use Rattle.kinds.specs.declared.replies.Verdict.the-variants.{Go, Refuse, Fail}
+use Rattle.rules.specs.Steps.{Step, Outcome, refused, done, keptBy, withEcbs, overStep}
+use Rattle.rules.specs.Fresh.{freshStep, freshOf}
+use Rattle.rules.specs.Family.{place}
+use Rattle.rules.specs.Events.{ecbAt}
+use Rattle.rules.specs.Clear.{clearVerdict}
+use Rattle.rules.specs.Post.{postVerdict}
+use Rattle.rules.specs.Sound.{soundTasks, soundQueue, soundEcbs, soundAreas, overGood, runningGood, soundStep}
+use Rattle.rules.specs.Admission.{admitted, gateOf, through, settled}
+use Rattle.family.specs.Families.{familyOf}
+use Rattle.events.specs.Blocks.{eventsOf}
+use Rattle.soundness.specs.Rules.{running, ended}
+use Rattle.queue.specs.Queues.{live, packedb}
+use Rattle.queue.proofs.Views.{packed-kept as queue-kept}
+use Rattle.storage.specs.Stored.{live as liveAreas, packedb as packedAreas}
+use Rattle.storage.specs.Kept.{packed-kept as areas-kept}
+use Rattle.services.specs.Kept.{Packed, stepOf, tablesOf, withSignals, soundb, answered, gated}
+use Rattle.services.specs.declared.Tables.{Tables}
+
+-- SOUND TABLES KEEP THEIR STEP
+
+pub sound-packed : (t : Tables) → soundb t ≡ true → Packed t
+unfolding soundb
+sound-packed t h =
+    let a = chain-and (packedb (t .queue)) _ h in
+    let b = chain-and (packedAreas (t .storage)) _ (a .1) in
+    record { queue = queue-kept (t .queue) (a .0); storage = areas-kept (t .storage) (b .0) }
+
+pub sound-step : (t : Tables) → soundb t ≡ true → soundStep (stepOf t) ≡ true
+unfolding soundb
+sound-step t h = chain-and (packedAreas (t .storage)) _ (chain-and (packedb (t .queue)) _ h .1) .1
+
+pub packed-tables : (t : Tables) → Packed t → tablesOf (stepOf t) ≡ t
+packed-tables t p = λ i. record {
+  over = t .over;
+  code = t .code;
+  family = t .family;
+  queue = sym (p .queue .form) i;
+  events = t .events;
+  storage = sym (p .storage .form) i;
+}
+
+-- the law that inner functions live on
+pub sound-tables : (t : Tables) → soundb t ≡ true → tablesOf (stepOf t) ≡ t
+sound-tables t h = packed-tables t (sound-packed t h)
+
+-- a refusal leaves the tables as they are
+pub refused-kept : (t : Tables) (why : Refusal) → Packed t → refused why t ≡ keptBy tablesOf (refused why (stepOf t))
+refused-kept t why p = ap (refused why) (sym (packed-tables t p))
+
+-- THE GATE's result g
+
+shut-open : {A : Type 0} (why : Refusal) → Shut why ≡ Open → A
+shut-open why e = absurd (let z : _≡_ {A = ℕ} 0 1 = cc in omega arith)
+
+module _ (t : Tables) (k : Step → Gate) where
+  gate-cases : (b : Bool) → soundb t ≡ b → gated t k ≡ pick b (k (stepOf t)) (Shut Unsound)
+  unfolding gated
+  gate-cases b e = rw e
+
+  open-sound : (b : Bool) → soundb t ≡ b → gated t k ≡ Open → soundb t ≡ true
+  unfolding pick
+  open-sound true e h = e
+  open-sound false e h = shut-open Unsound (sym (gate-cases false e) ∙ h)
+
+  pub gate-packed : (g : Gate) → g ≡ gated t k → g ≡ Open → Packed t
+  gate-packed g e h = sound-packed t (open-sound (soundb t) refl (sym e ∙ h))
+
+  module _ (o : Step → Outcome Step) (s : Outcome Tables) where
+    open-is : (b : Bool) → soundb t ≡ b → gated t k ≡ Open → s ≡ keptBy tablesOf (o (stepOf t)) → s ≡ answered t (λ u. through (k u) u (o u))
+    unfolding answered pick through
+    open-is true e h a =
+        let g : k (stepOf t) ≡ Open = sym (gate-cases true e) ∙ h in
+        rw (e, g) a
+    open-is false e h a = shut-open Unsound (sym (gate-cases false e) ∙ h)
+
+    -- an open gate: what the service's body answers
+    pub at-open : (g : Gate) → g ≡ gated t k → g ≡ Open → s ≡ keptBy tablesOf (o (stepOf t)) → s ≡ answered t (λ u. through (k u) u (o u))
+    at-open g e h a = open-is (soundb t) refl (sym e ∙ h) a
+
+    shut-is : (why : Refusal) (b : Bool) → soundb t ≡ b → gated t k ≡ Shut why → s ≡ refused why t → s ≡ answered t (λ u. through (k u) u (o u))
+    unfolding answered pick through
+    shut-is why true e h a =
+        let g : k (stepOf t) ≡ Shut why = sym (gate-cases true e) ∙ h in
+        rw (e, g) (a ∙ refused-kept t why (sound-packed t e))
+    shut-is why false e h a =
+        let g : why ≡ Unsound = cc (gate-cases false e) in
+        rw (e) (a ∙ ap (λ (w : Refusal). refused w t) g)
+
+    -- a gate that is shut refuses
+    pub at-shut : (g : Gate) (why : Refusal) → g ≡ gated t k → g ≡ Shut why → s ≡ refused why t → s ≡ answered t (λ u. through (k u) u (o u))
+    at-shut g why e h a = shut-is why (soundb t) refl (sym e ∙ h) a
+
+-- THE VERDICT v
+
+module _ (t : Tables) (c : TaskNumber) (o : Outcome Step) (s : Outcome Tables) (v : Verdict) where
+  pub on-go : v ≡ Go → s ≡ keptBy tablesOf o → s ≡ keptBy tablesOf (settled v (stepOf t) c o)
+  unfolding settled
+  on-go h a = rw h a
+
+  pub on-refuse : (why : Refusal) → v ≡ Refuse why → Packed t → s ≡ refused why t → s ≡ keptBy tablesOf (settled v (stepOf t) c o)
+  unfolding settled
+  on-refuse why h p a = rw h (a ∙ refused-kept t why p)
+
+-- THE TESTS OF THE TABLES, AND OF A CALLER
+
+module _ (t : Tables) (p : packedb (t .queue) ≡ true) (q : packedAreas (t .storage) ≡ true) where
+  pub sound-running : t .over ≡ false → running (t .code) (t .family .places) (live (t .queue)) (t .events .ecbs) (liveAreas (t .storage)) ≡ soundb t
+  unfolding soundb soundStep runningGood soundTasks soundQueue soundEcbs soundAreas running pick
+  sound-running o = rw (p, q, o)
+
+  pub sound-over : t .over ≡ true → ended (t .code) (t .family .places) (live (t .queue)) (t .events .ecbs) (liveAreas (t .storage)) ≡ soundb t
+  unfolding soundb soundStep overGood ended pick
+  sound-over o = rw (p, q, o)
+
+pub unpacked-queue : (t : Tables) → packedb (t .queue) ≡ false → false ≡ soundb t
+unfolding soundb pick
+unpacked-queue t p = rw p
+
+pub unpacked-areas : (t : Tables) → packedb (t .queue) ≡ true → packedAreas (t .storage) ≡ false → false ≡ soundb t
+unfolding soundb pick
+unpacked-areas t p q = rw (p, q)
+
+module _ (t : Tables) (k : Step → Gate) where
+  pub gate-unsound : soundb t ≡ false → Shut Unsound ≡ gated t k
+  unfolding gated pick
+  gate-unsound h = rw h
+
+  pub gate-is : (g : Gate) → soundb t ≡ true → g ≡ k (stepOf t) → g ≡ gated t k
+  unfolding gated pick
+  gate-is g h e = rw h e
+
+pub caller-gate : (t : Tables) (c : TaskNumber) (g : Gate) (a b : Bool) (x : Task) → g ≡ admitted (t .over) a b → a ≡ isLive (x .condition) → b ≡ waits (x .condition)
+    → x ≡ place (t .family .places) (c .0) → g ≡ gateOf (stepOf t) c
+unfolding gateOf
+caller-gate t c g a b x e u v w = e ∙ rw (u, v) (ap (λ (y : Task). admitted (t .over) (isLive (y .condition)) (waits (y .condition))) w)
+
+-- WHAT A SERVICE LEAVES
+
+pub put-signals : (t : Tables) (ts : List Task) (es : List Ecb) → Packed t → withSignals t (eventsOf es) (familyOf ts) ≡ tablesOf (withEcbs (stepOf t) ts es)
+put-signals t ts es p = λ i. record {
+  over = t .over;
+  code = t .code;
+  family = familyOf ts;
+  queue = p .queue .form i;
+  events = eventsOf es;
+  storage = p .storage .form i;
+}
+
+-- A FRESH START
+
+module _ (limit dispatching : ℕ) where
+  pub fresh-limit : priorityGood limit ≡ false → freshOf limit dispatching ≡ refused OutOfRange (overStep 0)
+  unfolding freshOf pick
+  fresh-limit h = rw h
+
+  pub fresh-order : priorityGood limit ≡ true → leb dispatching limit ≡ false → freshOf limit dispatching ≡ refused OutOfRange (overStep 0)
+  unfolding freshOf pick
+  fresh-order h k = rw (h, k)
+
+  pub fresh-good : priorityGood limit ≡ true → leb dispatching limit ≡ true → freshOf limit dispatching ≡ done 0 (freshStep limit dispatching)
+  unfolding freshOf pick
+  fresh-good h k = rw (h, k)
+
+-- VERDICTS
+
+module _ (es : List Ecb) (e : EcbNumber) where
+  pub clear-out : ecbGood (e .0) ≡ false → clearVerdict es e ≡ Refuse OutOfRange
+  unfolding clearVerdict pick
+  clear-out h = rw h
+
+  pub clear-waited : ecbGood (e .0) ≡ true → eqb (ecbAt es (e .0) .waiter .0) 0 ≡ false → clearVerdict es e ≡ Refuse WaitBitOn
+  unfolding clearVerdict pick
+  clear-waited h k = rw (h, k)
+
+  pub clear-goes : ecbGood (e .0) ≡ true → eqb (ecbAt es (e .0) .waiter .0) 0 ≡ true → clearVerdict es e ≡ Go
+  unfolding clearVerdict pick
+  clear-goes h k = rw (h, k)
+
+module _ (e : EcbNumber) (code : ℕ) where
+  pub post-out : ecbGood (e .0) ≡ false → postVerdict e code ≡ Refuse OutOfRange
+  unfolding postVerdict pick
+  post-out h = rw h
+
+  pub post-code : ecbGood (e .0) ≡ true → postCodeGood code ≡ false → postVerdict e code ≡ Refuse OutOfRange
+  unfolding postVerdict pick
+  post-code h k = rw (h, k)
+
+  pub post-goes : ecbGood (e .0) ≡ true → postCodeGood code ≡ true → postVerdict e code ≡ Go
+  unfolding postVerdict pick
+  post-goes h k = rw (h, k)

@@ -1,0 +1,92 @@
+use mathlib.Core.Path.{_≡_, refl, sym, ap, _∙_}
+use native.Mathlib.Omega.{arith}
+use borrow.Author.Tests.{eq-eqb, ne-eqb, le-leb, lt-leb, not-true, not-false, leb-true}
+use Rattle.lists.specs.Pick.{chosen, pick-true, pick-false}
+use Rattle.kinds.specs.declared.tasks.Task.{Task}
+use Rattle.rules.specs.Steps.{Step, Outcome, done, refused, keptBy, overStep}
+use Rattle.rules.specs.Admission.{admitted, gateOf, openGate}
+use Rattle.rules.specs.Family.{withPlace}
+use Rattle.rules.specs.Events.{Signals, signalled}
+use Rattle.rules.specs.Fresh.{begunWith, firstTask, freshStep, freshOf}
+use Rattle.rules.specs.Dispatch.{dispatched, dispatchBody}
+use Rattle.rules.specs.Clear.{clearVerdict, clearDone, clearBody}
+use Rattle.rules.specs.Post.{postVerdict, postDone, postBody}
+use Rattle.family.specs.Families.{familyOf}
+use Rattle.events.specs.Blocks.{eventsOf}
+use Rattle.queue.proofs.Views.{packed-kept as queue-kept}
+use Rattle.storage.specs.Kept.{packed-kept as areas-kept}
+use Rattle.signals.specs.Posts.{signalsOf}
+use Rattle.services.specs.Kept.{Packed, stepOf, tablesOf, withSignals, said, soundb, gated, answered}
+use Rattle.services.specs.declared.Tables.{Tables}
+use Rattle.services.proofs.Glue.{packed-tables, refused-kept, gate-packed, at-open, at-shut, on-go, on-refuse, sound-running, sound-over, unpacked-queue, unpacked-areas, gate-unsound, gate-is, caller-gate, put-signals, fresh-limit, fresh-order, fresh-good, clear-out, clear-waited, clear-goes, post-out, post-code, post-goes}
+use Rattle.kinds.specs.Ecbs.{noEcb}
+use Rattle.kinds.specs.declared.ecbs.Ecb.{Ecb}
+use Rattle.kinds.specs.declared.replies.Refusal.the-variants.{OutOfRange, WaitBitOn}
+use Rattle.events.specs.declared.Events.{Events}
+use Rattle.signals.specs.declared.Signals.{Signals as SignalTables}
+use lib.Dec.{eqb}
+use lib.ListN.{set}
+use borrow.Author.Needs.{needs}
+use Rattle.services.proofs.Tables.fresh.Statement.{statement}
+use Rattle.services.proofs.Tables.fresh.Tie as tie
+use Rattle.services.proofs.Tables.fresh.Reads as reads
+use Rattle.services.proofs.Tables.fresh.Lts as lts
+use Rattle.kinds.proofs.tasks.Task.priority_good.Reads as priority-good-reads
+use Rattle.services.proofs.Tables.begun.Reads as begun-reads
+use Rattle.services.proofs.Tables.over_with.Reads as over-with-reads
+use Rattle.services.proofs.Tables.refused.Reads as refused-reads
+
+priority-good-requires : tie.Need-priority-good-requires
+priority-good-requires c κs = search needs
+
+over-with-requires : tie.Need-over-with-requires
+over-with-requires c κs = search needs
+
+refused-requires : tie.Need-refused-requires
+refused-requires c κs = search needs
+
+returns : tie.Need-returns
+returns c =
+    (c .refused) .ensures ∙ ap (refused OutOfRange) ((c .before .over-with) .ensures)
+    ∙ ap (keptBy tablesOf) (sym (fresh-limit ((c .before .before .before .before .args) .limit) ((c .before .before .before .before .args) .dispatching) (sym ((c .before .before .before .priority-good) .ensures) ∙ not-true _ ((c .before .before .if1) .taken))))
+
+over-with-requires-2 : tie.Need-over-with-requires-2
+over-with-requires-2 c κs = search needs
+
+refused-requires-2 : tie.Need-refused-requires-2
+refused-requires-2 c κs = search needs
+
+returns-2 : tie.Need-returns-2
+returns-2 c =
+    (c .refused2) .ensures ∙ ap (refused OutOfRange) ((c .before .over-with2) .ensures)
+    ∙ ap (keptBy tablesOf) (sym (fresh-order ((c .before .before .before .before .before .args) .limit) ((c .before .before .before .before .before .args) .dispatching) (sym ((c .before .before .before .before .priority-good) .ensures) ∙ not-false _ ((c .before .before .before .if1) .left)) (lt-leb _ _ ((c .before .before .if2) .taken))))
+
+cast-t13 : tie.Need-cast-t13
+cast-t13 c = omega (arith, leb-true ((c .before .before .before .args) .limit) 255 (sym ((c .before .before .priority-good) .ensures) ∙ not-false _ ((c .before .if1) .left)))
+
+cast-t14 : tie.Need-cast-t14
+cast-t14 c = omega (arith, leb-true ((c .before .before .before .args) .limit) 255 (sym ((c .before .before .priority-good) .ensures) ∙ not-false _ ((c .before .if1) .left)))
+
+begun-requires : tie.Need-begun-requires
+begun-requires c κs = search needs
+
+returns-3 : tie.Need-returns-3
+returns-3 c =
+    ap (done 0) ((c .begun) .ensures)
+    ∙ ap (keptBy tablesOf) (sym (fresh-good ((c .before .before .before .before .args) .limit) ((c .before .before .before .before .args) .dispatching) (sym ((c .before .before .before .priority-good) .ensures) ∙ not-false _ ((c .before .before .if1) .left)) (le-leb _ _ ((c .before .if2) .left))))
+
+pub fresh-spec : {M : Type 1} → statement M
+fresh-spec =
+    tie.close
+    (tie.spec
+    priority-good-requires
+    over-with-requires
+    refused-requires
+    returns
+    over-with-requires-2
+    refused-requires-2
+    returns-2
+    cast-t13
+    cast-t14
+    begun-requires
+    returns-3)

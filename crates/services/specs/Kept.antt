@@ -1,0 +1,70 @@
+-- The step that tables stand for, the tables that keep a step, and what a service answers. Assumes nothing.
+use mathlib.Core.Bool.{Bool, false}
+use Rattle.lists.specs.Pick.{pick}
+use Rattle.kinds.specs.Replies.{numberOf, besidesOf}
+use Rattle.kinds.specs.declared.numbers.TaskNumber.{TaskNumber}
+use Rattle.kinds.specs.declared.replies.Refusal.the-variants.{Unsound}
+use Rattle.kinds.specs.declared.replies.Gate.{Gate}
+use Rattle.kinds.specs.declared.replies.Gate.the-variants.{Shut}
+use Rattle.rules.specs.Steps.{Step, Outcome, refused, keptBy}
+use Rattle.rules.specs.Sound.{soundStep}
+use Rattle.rules.specs.Admission.{gateOf, openGate}
+use Rattle.family.specs.Families.{familyOf}
+use Rattle.family.specs.declared.Family.{Family}
+use Rattle.events.specs.declared.Events.{Events}
+use Rattle.queue.specs.Queues.{live, stored, packedb, Packed as PackedQueue}
+use Rattle.events.specs.Blocks.{eventsOf}
+use Rattle.storage.specs.Stored.{live as liveAreas, stored as storedAreas, packedb as packedAreas, Packed as PackedAreas}
+use Rattle.services.specs.declared.Tables.{Tables}
+use Rattle.services.specs.declared.Answer.{Answer}
+
+abbrev pub stepOf : Tables → Step
+stepOf t = record {
+  over = t .over;
+  code = t .code;
+  tasks = t .family .places;
+  queue = live (t .queue);
+  ecbs = t .events .ecbs;
+  areas = liveAreas (t .storage);
+}
+
+abbrev pub tablesOf : Step → Tables
+tablesOf s = record {
+  over = s .over;
+  code = s .code;
+  family = familyOf (s .tasks);
+  queue = stored (s .queue);
+  events = eventsOf (s .ecbs);
+  storage = storedAreas (s .areas);
+}
+
+-- the tables keep their step: nothing else stands in them
+pub record Packed (t : Tables) : Type 0 where
+  pub queue : PackedQueue (t .queue)
+  pub storage : PackedAreas (t .storage)
+
+-- with other ECBs and tasks
+abbrev pub withSignals : Tables → Events → Family → Tables
+withSignals t e f = record { over = t .over; code = t .code; family = f; queue = t .queue; events = e; storage = t .storage }
+
+-- what an answer says, by the paper's number and value
+abbrev pub said : Answer → Outcome Tables
+said r = record { number = numberOf (r .reply); besides = besidesOf (r .reply); tables = r .tables }
+
+-- sound tables: they keep a step, and the step breaks no rule
+unfoldable pub soundb : Tables → Bool
+soundb t = pick (packedb (t .queue)) (pick (packedAreas (t .storage)) (soundStep (stepOf t)) false) false
+
+-- 100, then what the rules say of the step that the tables stand for, kept in tables again
+unfoldable pub answered : Tables → (Step → Outcome Step) → Outcome Tables
+answered t f = pick (soundb t) (keptBy tablesOf (f (stepOf t))) (refused Unsound t)
+
+-- a gate, with 100 before it
+unfoldable pub gated : Tables → (Step → Gate) → Gate
+gated t g = pick (soundb t) (g (stepOf t)) (Shut Unsound)
+
+abbrev pub gateAt : Tables → TaskNumber → Gate
+gateAt t c = gated t (λ s. gateOf s c)
+
+abbrev pub openGateAt : Tables → Gate
+openGateAt t = gated t openGate

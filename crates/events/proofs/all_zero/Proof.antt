@@ -11,9 +11,6 @@ use Rattle.kinds.specs.Ecbs.{noEcb}
 use Rattle.rules.specs.SoundEcbs.{zeroEcb}
 use Rattle.events.proofs.all_zero.Statement.{statement}
 use Rattle.events.proofs.all_zero.Tie as tie
-use Rattle.events.proofs.all_zero.Reads as reads
-use Rattle.events.proofs.all_zero.Lts as lts
-use Rattle.events.proofs.is_zero.Reads as is-zero-reads
 
 abbrev Inv-loop : tie.InvT-loop
 Inv-loop e i₀ i = (i ≤ 64) × (length (e .ecbs) ≡ 64) × (every zeroEcb (e .ecbs) ≡ every zeroEcb (drop i (e .ecbs)))

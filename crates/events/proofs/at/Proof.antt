@@ -4,12 +4,8 @@ use borrow.Author.Needs.{needs}
 use lib.ListN.{length, List·getD-eq-default}
 use Rattle.lists.specs.Arrays.{mapped-length}
 use Rattle.kinds.specs.Ecbs.{noEcb}
-use borrow.Author.Needs.{needs}
 use Rattle.events.proofs.at.Statement.{statement}
 use Rattle.events.proofs.at.Tie as tie
-use Rattle.events.proofs.at.Reads as reads
-use Rattle.events.proofs.at.Lts as lts
-use Rattle.kinds.proofs.ecbs.Ecb.zero.Reads as zero-reads
 
 zero-requires : tie.Need-zero-requires
 zero-requires c κs = search needs

@@ -6,8 +6,6 @@ use Rattle.lists.specs.Arrays.{mapped-length}
 use Rattle.rules.specs.SoundEcbs.{ecbsFit}
 use Rattle.events.proofs.ecbs_fit.Statement.{statement}
 use Rattle.events.proofs.ecbs_fit.Tie as tie
-use Rattle.events.proofs.ecbs_fit.Reads as reads
-use Rattle.events.proofs.ecbs_fit.Lts as lts
 
 returns : tie.Need-returns
 unfolding ecbsFit

@@ -1,10 +1,6 @@
 use borrow.Author.Needs.{needs}
-use borrow.Author.Needs.{needs}
 use Rattle.events.proofs.empty.Statement.{statement}
 use Rattle.events.proofs.empty.Tie as tie
-use Rattle.events.proofs.empty.Reads as reads
-use Rattle.events.proofs.empty.Lts as lts
-use Rattle.kinds.proofs.ecbs.Ecb.zero.Reads as zero-reads
 
 zero-requires : tie.Need-zero-requires
 zero-requires c κs = search needs

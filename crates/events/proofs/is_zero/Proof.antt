@@ -2,8 +2,6 @@ use borrow.Author.Tests.{eq-eqb, ne-eqb}
 use Rattle.events.specs.Words.{zero-complete, zero-waited, zero-code}
 use Rattle.events.proofs.is_zero.Statement.{statement}
 use Rattle.events.proofs.is_zero.Tie as tie
-use Rattle.events.proofs.is_zero.Reads as reads
-use Rattle.events.proofs.is_zero.Lts as lts
 
 returns : tie.Need-returns
 returns c = zero-complete ((c .before .args) .x) ((c .if1) .taken)

@@ -2,8 +2,6 @@ use Rattle.lists.specs.Pick.{chosen}
 use Rattle.rules.specs.Events.{unwaited}
 use Rattle.events.proofs.unwaited.Statement.{statement}
 use Rattle.events.proofs.unwaited.Tie as tie
-use Rattle.events.proofs.unwaited.Reads as reads
-use Rattle.events.proofs.unwaited.Lts as lts
 
 returns : tie.Need-returns
 unfolding unwaited

@@ -13,9 +13,6 @@ use Rattle.events.specs.Blocks.{eventsOf}
 use Rattle.events.specs.Counts.{mapAt-plain}
 use Rattle.events.proofs.unwaited_all.Statement.{statement}
 use Rattle.events.proofs.unwaited_all.Tie as tie
-use Rattle.events.proofs.unwaited_all.Reads as reads
-use Rattle.events.proofs.unwaited_all.Lts as lts
-use Rattle.events.proofs.unwaited.Reads as unwaited-reads
 
 abbrev Inv-loop : tie.InvT-loop
 Inv-loop w r₀ i₀ r i = (i ≤ 64) × (length (r₀ .ecbs) ≡ 64) × (r .ecbs ≡ upTo (λ (k : ℕ) (x : Ecb). unwaited (w .0) x) 0 i (r₀ .ecbs))

@@ -11,8 +11,6 @@ use Rattle.events.specs.Blocks.{waitsFrom}
 use Rattle.events.specs.Counts.{counted-few, counted, not-counted}
 use Rattle.events.proofs.waited_on.Statement.{statement}
 use Rattle.events.proofs.waited_on.Tie as tie
-use Rattle.events.proofs.waited_on.Reads as reads
-use Rattle.events.proofs.waited_on.Lts as lts
 
 abbrev Inv-loop : tie.InvT-loop
 Inv-loop e t₀ i₀ t i = (i ≤ 64) × (length (e .ecbs) ≡ 64) × (t .ecbs ≡ waitsFrom 33 0 (take i (e .ecbs)))

@@ -1,11 +1,8 @@
 use borrow.Author.Needs.{needs}
 use borrow.Author.Tests.{eq-eqb, ne-eqb}
 use Rattle.events.specs.Words.{word-code, word-complete, word-waited, word-both}
-use borrow.Author.Needs.{needs}
 use Rattle.events.proofs.word.Statement.{statement}
 use Rattle.events.proofs.word.Tie as tie
-use Rattle.events.proofs.word.Reads as reads
-use Rattle.events.proofs.word.Lts as lts
 
 cast-code : tie.Need-cast-code
 cast-code c = search needs

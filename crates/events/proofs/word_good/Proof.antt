@@ -2,12 +2,8 @@ use mathlib.Core.Path.{_∙_}
 use borrow.Author.Needs.{needs}
 use borrow.Author.Tests.{eq-eqb, ne-eqb}
 use Rattle.events.specs.Words.{good-complete, good-waited, good-incomplete}
-use borrow.Author.Needs.{needs}
 use Rattle.events.proofs.word_good.Statement.{statement}
 use Rattle.events.proofs.word_good.Tie as tie
-use Rattle.events.proofs.word_good.Reads as reads
-use Rattle.events.proofs.word_good.Lts as lts
-use Rattle.kinds.proofs.ecbs.Ecb.code_good.Reads as code-good-reads
 
 code-good-requires : tie.Need-code-good-requires
 code-good-requires c κs = search needs

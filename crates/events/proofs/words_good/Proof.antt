@@ -11,9 +11,6 @@ use Rattle.kinds.specs.Ecbs.{noEcb}
 use Rattle.rules.specs.SoundEcbs.{ecbWordGood, ecbWordsGood}
 use Rattle.events.proofs.words_good.Statement.{statement}
 use Rattle.events.proofs.words_good.Tie as tie
-use Rattle.events.proofs.words_good.Reads as reads
-use Rattle.events.proofs.words_good.Lts as lts
-use Rattle.events.proofs.word_good.Reads as word-good-reads
 
 abbrev Inv-loop : tie.InvT-loop
 Inv-loop e i₀ i = (i ≤ 64) × (length (e .ecbs) ≡ 64) × (every ecbWordGood (e .ecbs) ≡ every ecbWordGood (drop i (e .ecbs)))

@@ -6,9 +6,6 @@ use Rattle.laws.specs.Places.{place-none, place-past, place-at}
 use borrow.Author.Needs.{needs}
 use Rattle.family.proofs.at.Statement.{statement}
 use Rattle.family.proofs.at.Tie as tie
-use Rattle.family.proofs.at.Reads as reads
-use Rattle.family.proofs.at.Lts as lts
-use Rattle.kinds.proofs.tasks.Task.free.Reads as free-reads
 
 free-requires : tie.Need-free-requires
 free-requires c κs = search needs

@@ -1,9 +1,6 @@
 use borrow.Author.Needs.{needs}
 use Rattle.family.proofs.empty.Statement.{statement}
 use Rattle.family.proofs.empty.Tie as tie
-use Rattle.family.proofs.empty.Reads as reads
-use Rattle.family.proofs.empty.Lts as lts
-use Rattle.kinds.proofs.tasks.Task.free.Reads as free-reads
 
 free-requires : tie.Need-free-requires
 free-requires c κs = search needs

@@ -4,10 +4,6 @@ use Rattle.kinds.specs.Tasks.{isLive}
 use Rattle.kinds.specs.declared.tasks.Task.{Task}
 use Rattle.holdings.proofs.is_live.Statement.{statement}
 use Rattle.holdings.proofs.is_live.Tie as tie
-use Rattle.holdings.proofs.is_live.Reads as reads
-use Rattle.holdings.proofs.is_live.Lts as lts
-use Rattle.family.proofs.at.Reads as at-reads
-use Rattle.kinds.proofs.tasks.Condition.is_live.Reads as is-live-reads
 
 at-requires : tie.Need-at-requires
 at-requires c κs = search needs

@@ -5,9 +5,6 @@ use Rattle.lists.specs.Pick.{pick-true, pick-false}
 use Rattle.rules.specs.SoundAreas.{areaOwnerGood}
 use Rattle.holdings.proofs.owner_good.Statement.{statement}
 use Rattle.holdings.proofs.owner_good.Tie as tie
-use Rattle.holdings.proofs.owner_good.Reads as reads
-use Rattle.holdings.proofs.owner_good.Lts as lts
-use Rattle.holdings.proofs.is_live.Reads as is-live-reads
 
 returns : tie.Need-returns
 unfolding areaOwnerGood

@@ -11,9 +11,6 @@ use Rattle.lists.specs.Every.{every-fails, every-goes, every-end}
 use Rattle.rules.specs.SoundAreas.{areaOwnerGood, areaOwnersGood}
 use Rattle.holdings.proofs.owners_good.Statement.{statement}
 use Rattle.holdings.proofs.owners_good.Tie as tie
-use Rattle.holdings.proofs.owners_good.Reads as reads
-use Rattle.holdings.proofs.owners_good.Lts as lts
-use Rattle.holdings.proofs.owner_good.Reads as owner-good-reads
 
 abbrev Inv-loop : tie.InvT-loop
 Inv-loop f s n i₀ i = (i ≤ n) × (n ≤ 128) × (length (s .areas) ≡ 128) × (every (areaOwnerGood (f .places)) (take n (s .areas)) ≡ every (areaOwnerGood (f .places)) (slice i n (s .areas)))

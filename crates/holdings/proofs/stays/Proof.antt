@@ -5,9 +5,6 @@ use Rattle.lists.specs.Pick.{pick-true, pick-false}
 use Rattle.rules.specs.Ending.{areaStays}
 use Rattle.holdings.proofs.stays.Statement.{statement}
 use Rattle.holdings.proofs.stays.Tie as tie
-use Rattle.holdings.proofs.stays.Reads as reads
-use Rattle.holdings.proofs.stays.Lts as lts
-use Rattle.holdings.proofs.is_live.Reads as is-live-reads
 
 returns : tie.Need-returns
 unfolding areaStays

@@ -11,10 +11,6 @@ use Rattle.storage.specs.Stored.{stored}
 use Rattle.storage.proofs.Sweeps.{room, full, kept, passed}
 use Rattle.holdings.proofs.sweep.Statement.{statement}
 use Rattle.holdings.proofs.sweep.Tie as tie
-use Rattle.holdings.proofs.sweep.Reads as reads
-use Rattle.holdings.proofs.sweep.Lts as lts
-use Rattle.holdings.proofs.stays.Reads as stays-reads
-use Rattle.storage.proofs.empty.Reads as empty-reads
 
 abbrev Inv-loop : tie.InvT-loop
 Inv-loop f s n r₀ i₀ r i = (i ≤ n) × (n ≤ 128) × (length (s .areas) ≡ 128) × (r ≡ stored (keep (areaStays (f .places)) (take i (s .areas))))

@@ -1,4 +1,3 @@
-use Prim.Native.Nat.{_-_}
 use mathlib.Core.Path.{ap, _∙_}
 use Rattle.kinds.specs.Tasks.{isLive}
 use Rattle.kinds.specs.declared.tasks.Task.{Task}

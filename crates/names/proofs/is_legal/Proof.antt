@@ -1,4 +1,3 @@
-use Prim.Native.Nat.{_-_}
 use borrow.Author.Needs.{needs}
 use Rattle.names.proofs.Shown.{legal-is}
 use Rattle.names.proofs.is_legal.Statement.{statement}

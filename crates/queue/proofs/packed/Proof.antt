@@ -1,4 +1,3 @@
-use Prim.Native.Nat.{_-_}
 use native.Mathlib.Omega.{arith}
 use Rattle.queue.specs.Queues.{packedb}
 use Rattle.lists.specs.Pick.{chosen}

@@ -1,4 +1,3 @@
-use Prim.Native.Nat.{_-_}
 use borrow.Author.Needs.{needs}
 use Rattle.lists.specs.Arrays.{mapped-length}
 use Rattle.queue.proofs.Tests.{fits-is}

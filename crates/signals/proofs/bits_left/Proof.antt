@@ -3,13 +3,8 @@ use borrow.Author.Needs.{needs}
 use Rattle.lists.specs.Pick.{pick-true, pick-false}
 use Rattle.rules.specs.Events.{bitsLeft}
 use Rattle.events.specs.Blocks.{eventsOf}
-use borrow.Author.Needs.{needs}
 use Rattle.signals.proofs.bits_left.Statement.{statement}
 use Rattle.signals.proofs.bits_left.Tie as tie
-use Rattle.signals.proofs.bits_left.Reads as reads
-use Rattle.signals.proofs.bits_left.Lts as lts
-use Rattle.events.proofs.unwaited_all.Reads as unwaited-all-reads
-use Rattle.kinds.proofs.tasks.Condition.is_ready.Reads as is-ready-reads
 
 is-ready-requires : tie.Need-is-ready-requires
 is-ready-requires c κs = search needs

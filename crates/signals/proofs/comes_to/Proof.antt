@@ -6,14 +6,8 @@ use Rattle.kinds.specs.Tasks.{withCondition}
 use Rattle.kinds.specs.declared.tasks.Task.{Task}
 use Rattle.rules.specs.Family.{place, withPlace}
 use Rattle.signals.specs.Posts.{signalsOf}
-use borrow.Author.Needs.{needs}
 use Rattle.signals.proofs.comes_to.Statement.{statement}
 use Rattle.signals.proofs.comes_to.Tie as tie
-use Rattle.signals.proofs.comes_to.Reads as reads
-use Rattle.signals.proofs.comes_to.Lts as lts
-use Rattle.family.proofs.at.Reads as at-reads
-use Rattle.kinds.proofs.tasks.Task.with_condition.Reads as with-condition-reads
-use Rattle.signals.proofs.bits_left.Reads as bits-left-reads
 
 at-requires : tie.Need-at-requires
 at-requires c κs = search needs

@@ -1,9 +1,6 @@
 use borrow.Author.Needs.{needs}
-use borrow.Author.Needs.{needs}
 use Rattle.signals.proofs.need_good.Statement.{statement}
 use Rattle.signals.proofs.need_good.Tie as tie
-use Rattle.signals.proofs.need_good.Reads as reads
-use Rattle.signals.proofs.need_good.Lts as lts
 
 enum-told : tie.Need-enum-told
 enum-told c = search needs

@@ -12,10 +12,6 @@ use Rattle.events.specs.declared.Tally.{Tally}
 use Rattle.signals.specs.Sound.{needFrom, needs-from}
 use Rattle.signals.proofs.needs_good.Statement.{statement}
 use Rattle.signals.proofs.needs_good.Tie as tie
-use Rattle.signals.proofs.needs_good.Reads as reads
-use Rattle.signals.proofs.needs_good.Lts as lts
-use Rattle.events.proofs.waited_on.Reads as waited-on-reads
-use Rattle.signals.proofs.need_good.Reads as need-good-reads
 
 abbrev Inv-loop : tie.InvT-loop
 Inv-loop f t i₀ i = (i ≤ 32) × (length (f .places) ≡ 32) × (everyAt (needFrom (t .ecbs)) 1 (f .places) ≡ everyAt (needFrom (t .ecbs)) (i + 1) (drop i (f .places)))

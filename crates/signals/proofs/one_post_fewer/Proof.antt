@@ -1,11 +1,8 @@
 use borrow.Author.Needs.{needs}
 use Rattle.lists.specs.Pick.{chosen}
 use Rattle.rules.specs.Events.{onePostFewer}
-use borrow.Author.Needs.{needs}
 use Rattle.signals.proofs.one_post_fewer.Statement.{statement}
 use Rattle.signals.proofs.one_post_fewer.Tie as tie
-use Rattle.signals.proofs.one_post_fewer.Reads as reads
-use Rattle.signals.proofs.one_post_fewer.Lts as lts
 
 enum-told : tie.Need-enum-told
 enum-told c = search needs

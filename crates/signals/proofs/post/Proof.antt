@@ -6,15 +6,8 @@ use Rattle.rules.specs.Events.{completed, woken}
 use Rattle.events.specs.declared.Events.{Events}
 use Rattle.signals.specs.Posts.{signalsOf}
 use Rattle.signals.specs.Steps.{signalled-complete, signalled-new}
-use borrow.Author.Needs.{needs}
 use Rattle.signals.proofs.post.Statement.{statement}
 use Rattle.signals.proofs.post.Tie as tie
-use Rattle.signals.proofs.post.Reads as reads
-use Rattle.signals.proofs.post.Lts as lts
-use Rattle.events.proofs.at.Reads as at-reads
-use Rattle.events.proofs.completed.Reads as completed-reads
-use Rattle.events.proofs.with_ecb.Reads as with-ecb-reads
-use Rattle.signals.proofs.woken.Reads as woken-reads
 
 at-requires : tie.Need-at-requires
 at-requires c κs = search needs

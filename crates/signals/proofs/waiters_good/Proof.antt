@@ -12,9 +12,6 @@ use Rattle.kinds.specs.Ecbs.{noEcb}
 use Rattle.signals.specs.Sound.{waiterGood, waiters-each, waiter-none, waiter-past, waiter-at}
 use Rattle.signals.proofs.waiters_good.Statement.{statement}
 use Rattle.signals.proofs.waiters_good.Tie as tie
-use Rattle.signals.proofs.waiters_good.Reads as reads
-use Rattle.signals.proofs.waiters_good.Lts as lts
-use Rattle.signals.proofs.in_ecb_wait.Reads as in-ecb-wait-reads
 
 abbrev Inv-loop : tie.InvT-loop
 Inv-loop e f i₀ i = (i ≤ 64) × (length (e .ecbs) ≡ 64) × (length (f .places) ≡ 32) × (every (waiterGood (f .places)) (e .ecbs) ≡ every (waiterGood (f .places)) (drop i (e .ecbs)))

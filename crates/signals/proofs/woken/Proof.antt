@@ -8,14 +8,8 @@ use Rattle.kinds.specs.declared.tasks.Condition.{Condition}
 use Rattle.rules.specs.Events.{onePostFewer, comesTo}
 use Rattle.signals.specs.Posts.{signalsOf}
 use Rattle.signals.specs.Steps.{woken-none, woken-by, woken-past}
-use borrow.Author.Needs.{needs}
 use Rattle.signals.proofs.woken.Statement.{statement}
 use Rattle.signals.proofs.woken.Tie as tie
-use Rattle.signals.proofs.woken.Reads as reads
-use Rattle.signals.proofs.woken.Lts as lts
-use Rattle.family.proofs.at.Reads as at-reads
-use Rattle.signals.proofs.comes_to.Reads as comes-to-reads
-use Rattle.signals.proofs.one_post_fewer.Reads as one-post-fewer-reads
 
 returns : tie.Need-returns
 unfolding signalsOf

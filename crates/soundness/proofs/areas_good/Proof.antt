@@ -1,13 +1,6 @@
 use borrow.Author.Needs.{needs}
 use Rattle.soundness.proofs.areas_good.Statement.{statement}
 use Rattle.soundness.proofs.areas_good.Tie as tie
-use Rattle.soundness.proofs.areas_good.Reads as reads
-use Rattle.soundness.proofs.areas_good.Lts as lts
-use Rattle.holdings.proofs.owners_good.Reads as owners-good-reads
-use Rattle.storage.proofs.areas_apart.Reads as areas-apart-reads
-use Rattle.storage.proofs.areas_fit.Reads as areas-fit-reads
-use Rattle.storage.proofs.areas_rise.Reads as areas-rise-reads
-use Rattle.storage.proofs.shapes_good.Reads as shapes-good-reads
 
 areas-fit-requires : tie.Need-areas-fit-requires
 areas-fit-requires c κs = search needs

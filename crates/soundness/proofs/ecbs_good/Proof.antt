@@ -1,11 +1,6 @@
 use borrow.Author.Needs.{needs}
 use Rattle.soundness.proofs.ecbs_good.Statement.{statement}
 use Rattle.soundness.proofs.ecbs_good.Tie as tie
-use Rattle.soundness.proofs.ecbs_good.Reads as reads
-use Rattle.soundness.proofs.ecbs_good.Lts as lts
-use Rattle.events.proofs.words_good.Reads as words-good-reads
-use Rattle.signals.proofs.needs_good.Reads as needs-good-reads
-use Rattle.signals.proofs.waiters_good.Reads as waiters-good-reads
 
 waiters-good-requires : tie.Need-waiters-good-requires
 waiters-good-requires c κs = search needs

@@ -5,8 +5,6 @@ use lib.ListN.{length}
 use Rattle.lists.specs.Arrays.{mapped-length, none-taken}
 use Rattle.soundness.proofs.no_area.Statement.{statement}
 use Rattle.soundness.proofs.no_area.Tie as tie
-use Rattle.soundness.proofs.no_area.Reads as reads
-use Rattle.soundness.proofs.no_area.Lts as lts
 
 returns : tie.Need-returns
 returns c =

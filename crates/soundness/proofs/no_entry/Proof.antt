@@ -7,8 +7,6 @@ use Rattle.lists.specs.Arrays.{mapped-length, none-taken}
 use Rattle.queue.specs.Queues.{entryOf}
 use Rattle.soundness.proofs.no_entry.Statement.{statement}
 use Rattle.soundness.proofs.no_entry.Tie as tie
-use Rattle.soundness.proofs.no_entry.Reads as reads
-use Rattle.soundness.proofs.no_entry.Lts as lts
 
 returns : tie.Need-returns
 returns c =

@@ -2,14 +2,6 @@ use Rattle.soundness.specs.Rules.{ended}
 use borrow.Author.Needs.{needs}
 use Rattle.soundness.proofs.over_good.Statement.{statement}
 use Rattle.soundness.proofs.over_good.Tie as tie
-use Rattle.soundness.proofs.over_good.Reads as reads
-use Rattle.soundness.proofs.over_good.Lts as lts
-use Rattle.events.proofs.all_zero.Reads as all-zero-reads
-use Rattle.family.proofs.sound.all_zero.Reads as sound-all-zero-reads
-use Rattle.kinds.proofs.tasks.Task.code_good.Reads as code-good-reads
-use Rattle.soundness.proofs.no_area.Reads as no-area-reads
-use Rattle.soundness.proofs.no_entry.Reads as no-entry-reads
-use Rattle.soundness.proofs.sizes_good.Reads as sizes-good-reads
 
 sizes-good-requires : tie.Need-sizes-good-requires
 sizes-good-requires c κs = search needs

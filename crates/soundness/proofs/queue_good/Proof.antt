@@ -1,13 +1,6 @@
 use borrow.Author.Needs.{needs}
 use Rattle.soundness.proofs.queue_good.Statement.{statement}
 use Rattle.soundness.proofs.queue_good.Tie as tie
-use Rattle.soundness.proofs.queue_good.Reads as reads
-use Rattle.soundness.proofs.queue_good.Lts as lts
-use Rattle.locks.proofs.entries_live.Reads as entries-live-reads
-use Rattle.locks.proofs.waits_good.Reads as waits-good-reads
-use Rattle.queue.proofs.entries_once.Reads as entries-once-reads
-use Rattle.queue.proofs.entry_names_good.Reads as entry-names-good-reads
-use Rattle.queue.proofs.queue_fits.Reads as queue-fits-reads
 
 queue-fits-requires : tie.Need-queue-fits-requires
 queue-fits-requires c κs = search needs

@@ -2,13 +2,6 @@ use Rattle.soundness.specs.Rules.{running}
 use borrow.Author.Needs.{needs}
 use Rattle.soundness.proofs.running_good.Statement.{statement}
 use Rattle.soundness.proofs.running_good.Tie as tie
-use Rattle.soundness.proofs.running_good.Reads as reads
-use Rattle.soundness.proofs.running_good.Lts as lts
-use Rattle.soundness.proofs.areas_good.Reads as areas-good-reads
-use Rattle.soundness.proofs.ecbs_good.Reads as ecbs-good-reads
-use Rattle.soundness.proofs.queue_good.Reads as queue-good-reads
-use Rattle.soundness.proofs.sizes_good.Reads as sizes-good-reads
-use Rattle.soundness.proofs.tasks_good.Reads as tasks-good-reads
 
 sizes-good-requires : tie.Need-sizes-good-requires
 sizes-good-requires c κs = search needs

@@ -1,10 +1,6 @@
 use borrow.Author.Needs.{needs}
 use Rattle.soundness.proofs.sizes_good.Statement.{statement}
 use Rattle.soundness.proofs.sizes_good.Tie as tie
-use Rattle.soundness.proofs.sizes_good.Reads as reads
-use Rattle.soundness.proofs.sizes_good.Lts as lts
-use Rattle.events.proofs.ecbs_fit.Reads as ecbs-fit-reads
-use Rattle.family.proofs.sound.tasks_fit.Reads as tasks-fit-reads
 
 tasks-fit-requires : tie.Need-tasks-fit-requires
 tasks-fit-requires c κs = search needs

@@ -1,14 +1,6 @@
 use borrow.Author.Needs.{needs}
 use Rattle.soundness.proofs.tasks_good.Statement.{statement}
 use Rattle.soundness.proofs.tasks_good.Tie as tie
-use Rattle.soundness.proofs.tasks_good.Reads as reads
-use Rattle.soundness.proofs.tasks_good.Lts as lts
-use Rattle.family.proofs.sound.ended_tasks_good.Reads as ended-tasks-good-reads
-use Rattle.family.proofs.sound.free_places_good.Reads as free-places-good-reads
-use Rattle.family.proofs.sound.job_step_good.Reads as job-step-good-reads
-use Rattle.family.proofs.sound.mothers_good.Reads as mothers-good-reads
-use Rattle.family.proofs.sound.priorities_good.Reads as priorities-good-reads
-use Rattle.family.proofs.sound.task_ecbs_good.Reads as task-ecbs-good-reads
 
 job-step-good-requires : tie.Need-job-step-good-requires
 job-step-good-requires c κs = search needs

@@ -1,15 +1,9 @@
-use Prim.Native.Nat.{_-_}
 use mathlib.Core.Path.{sym, _∙_}
 use borrow.Author.Needs.{needs}
 use borrow.Author.Tests.{not-true, not-false}
 use Rattle.storage.proofs.Tests.{apart-not, apart-one, apart-pages}
 use Rattle.storage.proofs.apart.Statement.{statement}
 use Rattle.storage.proofs.apart.Tie as tie
-use Rattle.storage.proofs.apart.Reads as reads
-use Rattle.storage.proofs.apart.Lts as lts
-use Rattle.storage.proofs.bytes_apart.Reads as bytes-apart-reads
-use Rattle.storage.proofs.one_holder.Reads as one-holder-reads
-use Rattle.storage.proofs.pages_apart.Reads as pages-apart-reads
 
 bytes-apart-requires : tie.Need-bytes-apart-requires
 bytes-apart-requires c κs = search needs

@@ -10,8 +10,6 @@ use Rattle.storage.specs.Changes.{extended}
 use Rattle.storage.proofs.Growing.{extended-end, extended-on}
 use Rattle.storage.proofs.append_range.Statement.{statement}
 use Rattle.storage.proofs.append_range.Tie as tie
-use Rattle.storage.proofs.append_range.Reads as reads
-use Rattle.storage.proofs.append_range.Lts as lts
 
 abbrev Inv-loop : tie.InvT-loop
 Inv-loop i n s q₀ k₀ q k = (k ≤ n) × (n ≤ 128) × (length (s .areas) ≡ 128) × (q .count + (n - k) ≤ 128) × (length (q .areas) ≡ 128) × (extended q₀ (slice i n (s .areas)) ≡ extended q (slice k n (s .areas)))

@@ -13,9 +13,6 @@ use Rattle.rules.specs.SoundAreas.{areasApart}
 use Rattle.storage.specs.Pairs.{pairs-end, pairs-next, inner-fails, inner-goes, inner-end}
 use Rattle.storage.proofs.areas_apart.Statement.{statement}
 use Rattle.storage.proofs.areas_apart.Tie as tie
-use Rattle.storage.proofs.areas_apart.Reads as reads
-use Rattle.storage.proofs.areas_apart.Lts as lts
-use Rattle.storage.proofs.apart.Reads as apart-reads
 
 abbrev Inv-loop2 : tie.InvT-loop2
 Inv-loop2 s n i x j₀ j = (i ≤ n) × (n ≤ 128) × (length (s .areas) ≡ 128) × (j ≤ n) × (pairwise apart (take n (s .areas)) ≡ (every (apart x) (slice j n (s .areas)) && pairwise apart (slice i n (s .areas))))

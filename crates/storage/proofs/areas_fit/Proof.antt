@@ -1,4 +1,3 @@
-use Prim.Native.Nat.{_-_}
 use mathlib.Core.Path.{_≡_}
 use borrow.Author.Needs.{needs}
 use lib.ListN.{length}
@@ -6,8 +5,6 @@ use Rattle.lists.specs.Arrays.{mapped-length}
 use Rattle.storage.proofs.Tests.{fit-is}
 use Rattle.storage.proofs.areas_fit.Statement.{statement}
 use Rattle.storage.proofs.areas_fit.Tie as tie
-use Rattle.storage.proofs.areas_fit.Reads as reads
-use Rattle.storage.proofs.areas_fit.Lts as lts
 
 returns : tie.Need-returns
 returns c =

@@ -12,8 +12,6 @@ use Rattle.storage.specs.Pairs.{pairs-last, neighbours-fail, neighbours-
 use Rattle.storage.proofs.Tests.{rises, rises-chain}
 use Rattle.storage.proofs.areas_rise.Statement.{statement}
 use Rattle.storage.proofs.areas_rise.Tie as tie
-use Rattle.storage.proofs.areas_rise.Reads as reads
-use Rattle.storage.proofs.areas_rise.Lts as lts
 
 abbrev Inv-loop : tie.InvT-loop
 Inv-loop s n i₀ i = (0 < i) × (n ≤ 128) × (length (s .areas) ≡ 128) × (pairwise rises (take n (s .areas)) ≡ pairwise rises (slice (i - 1) n (s .areas)))

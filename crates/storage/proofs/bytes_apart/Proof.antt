@@ -1,13 +1,8 @@
-use Prim.Native.Nat.{_-_}
 use native.Mathlib.Omega.{arith}
 use borrow.Author.Needs.{needs}
 use Rattle.storage.proofs.Tests.{bytes-first, bytes-second}
 use Rattle.storage.proofs.bytes_apart.Statement.{statement}
 use Rattle.storage.proofs.bytes_apart.Tie as tie
-use Rattle.storage.proofs.bytes_apart.Reads as reads
-use Rattle.storage.proofs.bytes_apart.Lts as lts
-use Rattle.storage.proofs.end_of.Reads as end-of-reads
-use Rattle.storage.proofs.start_of.Reads as start-of-reads
 
 end-of-requires : tie.Need-end-of-requires
 end-of-requires c κs = search needs

@@ -1,11 +1,7 @@
-use Prim.Native.Nat.{_-_}
 use borrow.Author.Needs.{needs}
 use Rattle.lists.specs.Tables.{padded}
 use Rattle.storage.proofs.empty.Statement.{statement}
 use Rattle.storage.proofs.empty.Tie as tie
-use Rattle.storage.proofs.empty.Reads as reads
-use Rattle.storage.proofs.empty.Lts as lts
-use Rattle.kinds.proofs.areas.Area.zero.Reads as zero-reads
 
 zero-requires : tie.Need-zero-requires
 zero-requires c κs = search needs

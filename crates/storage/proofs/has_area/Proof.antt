@@ -10,9 +10,6 @@ use Rattle.lists.specs.Every.{some-here, some-later, some-end}
 use Rattle.rules.specs.Storage.{sameArea}
 use Rattle.storage.proofs.has_area.Statement.{statement}
 use Rattle.storage.proofs.has_area.Tie as tie
-use Rattle.storage.proofs.has_area.Reads as reads
-use Rattle.storage.proofs.has_area.Lts as lts
-use Rattle.storage.proofs.same_area.Reads as same-area-reads
 
 abbrev Inv-loop : tie.InvT-loop
 Inv-loop a s n i₀ i = (i ≤ n) × (n ≤ 128) × (length (s .areas) ≡ 128) × (some (sameArea a) (take n (s .areas)) ≡ some (sameArea a) (slice i n (s .areas)))

@@ -1,4 +1,3 @@
-use Prim.Native.Nat.{_-_}
 use mathlib.Core.Path.{_≡_, ap, _∙_}
 use native.Mathlib.Omega.{arith}
 use borrow.Author.Needs.{needs}
@@ -10,10 +9,6 @@ use Rattle.storage.proofs.Growing.{length-live}
 use Rattle.storage.proofs.Ranks.{inserted-rank, rank-within}
 use Rattle.storage.proofs.insert.Statement.{statement}
 use Rattle.storage.proofs.insert.Tie as tie
-use Rattle.storage.proofs.insert.Reads as reads
-use Rattle.storage.proofs.insert.Lts as lts
-use Rattle.storage.proofs.insert_at.Reads as insert-at-reads
-use Rattle.storage.proofs.rank.Reads as rank-reads
 
 rank-requires : tie.Need-rank-requires
 rank-requires c κs = search needs

@@ -1,4 +1,3 @@
-use Prim.Native.Nat.{_+_, _-_}
 use mathlib.Core.Path.{_≡_, sym, ap, _∙_}
 use mathlib.Core.List.{[], _∷_, _++_}
 use native.Mathlib.Omega.{arith}
@@ -11,11 +10,6 @@ use Rattle.storage.specs.declared.Storage.{Storage}
 use Rattle.storage.proofs.Growing.{grown, count-of, then-more, front, front-count}
 use Rattle.storage.proofs.insert_at.Statement.{statement}
 use Rattle.storage.proofs.insert_at.Tie as tie
-use Rattle.storage.proofs.insert_at.Reads as reads
-use Rattle.storage.proofs.insert_at.Lts as lts
-use Rattle.storage.proofs.append.Reads as append-reads
-use Rattle.storage.proofs.append_range.Reads as append-range-reads
-use Rattle.storage.proofs.empty.Reads as empty-reads
 
 empty-requires : tie.Need-empty-requires
 empty-requires c κs = search needs

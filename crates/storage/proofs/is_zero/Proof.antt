@@ -1,14 +1,9 @@
-use Prim.Native.Nat.{_-_}
 use mathlib.Core.Path.{ap, _∙_}
 use borrow.Author.Needs.{needs}
 use Rattle.rules.specs.Storage.{sameArea}
 use Rattle.storage.specs.Stored.{isZero}
 use Rattle.storage.proofs.is_zero.Statement.{statement}
 use Rattle.storage.proofs.is_zero.Tie as tie
-use Rattle.storage.proofs.is_zero.Reads as reads
-use Rattle.storage.proofs.is_zero.Lts as lts
-use Rattle.kinds.proofs.areas.Area.zero.Reads as zero-reads
-use Rattle.storage.proofs.same_area.Reads as same-area-reads
 
 zero-requires : tie.Need-zero-requires
 zero-requires c κs = search needs

@@ -1,4 +1,4 @@
-use Prim.Native.Nat.{_+_, _-_, _*_}
+use Prim.Native.Nat.{_+_, _*_}
 use mathlib.Core.Path.{_≡_, refl, sym, ap, _∙_}
 use native.Mathlib.Omega.{arith}
 use borrow.Author.Needs.{needs}
@@ -7,10 +7,6 @@ use Rattle.storage.specs.Stored.{live}
 use Rattle.storage.proofs.Trials.{lowest-here, lowest-on, lowest-end}
 use Rattle.storage.proofs.lowest.Statement.{statement}
 use Rattle.storage.proofs.lowest.Tie as tie
-use Rattle.storage.proofs.lowest.Reads as reads
-use Rattle.storage.proofs.lowest.Lts as lts
-use Rattle.storage.proofs.permitted.Reads as permitted-reads
-use Rattle.storage.proofs.placed.Reads as placed-reads
 
 abbrev Inv-loop : tie.InvT-loop
 Inv-loop s want left₀ at₀ left at = (at + 8 * left ≡ 131072) × (lowest (live s) want ≡ lowestFrom left (live s) want at)

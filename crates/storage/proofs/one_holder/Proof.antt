@@ -1,10 +1,7 @@
-use Prim.Native.Nat.{_-_}
 use borrow.Author.Tests.{eq-eqb, ne-eqb}
 use Rattle.rules.specs.Storage.{oneHolder}
 use Rattle.storage.proofs.one_holder.Statement.{statement}
 use Rattle.storage.proofs.one_holder.Tie as tie
-use Rattle.storage.proofs.one_holder.Reads as reads
-use Rattle.storage.proofs.one_holder.Lts as lts
 
 returns : tie.Need-returns
 unfolding oneHolder

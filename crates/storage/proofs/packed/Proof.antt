@@ -1,12 +1,8 @@
-use Prim.Native.Nat.{_-_}
 use borrow.Author.Needs.{needs}
 use Rattle.lists.specs.Pick.{chosen}
 use Rattle.storage.specs.Stored.{packedb}
 use Rattle.storage.proofs.packed.Statement.{statement}
 use Rattle.storage.proofs.packed.Tie as tie
-use Rattle.storage.proofs.packed.Reads as reads
-use Rattle.storage.proofs.packed.Lts as lts
-use Rattle.storage.proofs.rest_zero.Reads as rest-zero-reads
 
 returns : tie.Need-returns
 unfolding packedb

@@ -1,13 +1,8 @@
-use Prim.Native.Nat.{_-_}
 use native.Mathlib.Omega.{arith}
 use borrow.Author.Needs.{needs}
 use Rattle.storage.proofs.Tests.{pages-first, pages-second}
 use Rattle.storage.proofs.pages_apart.Statement.{statement}
 use Rattle.storage.proofs.pages_apart.Tie as tie
-use Rattle.storage.proofs.pages_apart.Reads as reads
-use Rattle.storage.proofs.pages_apart.Lts as lts
-use Rattle.storage.proofs.first_page.Reads as first-page-reads
-use Rattle.storage.proofs.past_page.Reads as past-page-reads
 
 past-page-requires : tie.Need-past-page-requires
 past-page-requires c κs = search needs

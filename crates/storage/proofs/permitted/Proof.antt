@@ -12,10 +12,6 @@ use Rattle.rules.specs.Storage.{endOf, apart}
 use Rattle.storage.proofs.Trials.{permitted-not, permitted-every}
 use Rattle.storage.proofs.permitted.Statement.{statement}
 use Rattle.storage.proofs.permitted.Tie as tie
-use Rattle.storage.proofs.permitted.Reads as reads
-use Rattle.storage.proofs.permitted.Lts as lts
-use Rattle.storage.proofs.apart.Reads as apart-reads
-use Rattle.storage.proofs.end_of.Reads as end-of-reads
 
 abbrev Inv-loop : tie.InvT-loop
 Inv-loop a s n i₀ i = (i ≤ n) × (n ≤ 128) × (length (s .areas) ≡ 128) × (endOf a ≤ 131072) × (every (apart a) (take n (s .areas)) ≡ every (apart a) (slice i n (s .areas)))

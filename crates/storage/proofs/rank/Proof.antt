@@ -9,8 +9,6 @@ use Rattle.storage.specs.Changes.{rankIn}
 use Rattle.storage.proofs.Ranks.{rank-end, rank-stop, rank-on}
 use Rattle.storage.proofs.rank.Statement.{statement}
 use Rattle.storage.proofs.rank.Tie as tie
-use Rattle.storage.proofs.rank.Reads as reads
-use Rattle.storage.proofs.rank.Lts as lts
 
 abbrev Inv-loop : tie.InvT-loop
 Inv-loop a s n i₀ i = (i ≤ n) × (n ≤ 128) × (length (s .areas) ≡ 128) × (rankIn a (take n (s .areas)) ≡ i + rankIn a (slice i n (s .areas)))

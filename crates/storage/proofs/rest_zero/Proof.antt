@@ -10,9 +10,6 @@ use Rattle.lists.specs.Every.{rest-fails, rest-goes, rest-end}
 use Rattle.storage.specs.Stored.{isZero, restZero}
 use Rattle.storage.proofs.rest_zero.Statement.{statement}
 use Rattle.storage.proofs.rest_zero.Tie as tie
-use Rattle.storage.proofs.rest_zero.Reads as reads
-use Rattle.storage.proofs.rest_zero.Lts as lts
-use Rattle.storage.proofs.is_zero.Reads as is-zero-reads
 
 abbrev Inv-loop : tie.InvT-loop
 Inv-loop s i₀ i = (s .count ≤ i) × (i ≤ 128) × (length (s .areas) ≡ 128) × (every isZero (drop (s .count) (s .areas)) ≡ every isZero (drop i (s .areas)))

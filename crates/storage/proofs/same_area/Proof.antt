@@ -1,12 +1,8 @@
-use Prim.Native.Nat.{_-_}
 use borrow.Author.Needs.{needs}
 use borrow.Author.Tests.{eq-eqb, ne-eqb}
 use Rattle.rules.specs.Storage.{sameArea}
 use Rattle.storage.proofs.same_area.Statement.{statement}
 use Rattle.storage.proofs.same_area.Tie as tie
-use Rattle.storage.proofs.same_area.Reads as reads
-use Rattle.storage.proofs.same_area.Lts as lts
-use Rattle.storage.proofs.one_holder.Reads as one-holder-reads
 
 returns : tie.Need-returns
 unfolding sameArea

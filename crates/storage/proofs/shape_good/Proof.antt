@@ -1,4 +1,4 @@
-use Prim.Native.Nat.{_-_, _%_}
+use Prim.Native.Nat.{_%_}
 use native.Mathlib.Omega.{arith}
 use borrow.Author.Needs.{needs}
 use borrow.Author.Tests.{eq-eqb, ne-eqb, lt-ltb, le-ltb, le-leb, lt-leb}
@@ -6,10 +6,6 @@ use Rattle.rules.specs.Storage.{endOf}
 use Rattle.rules.specs.SoundAreas.{areaShapeGood}
 use Rattle.storage.proofs.shape_good.Statement.{statement}
 use Rattle.storage.proofs.shape_good.Tie as tie
-use Rattle.storage.proofs.shape_good.Reads as reads
-use Rattle.storage.proofs.shape_good.Lts as lts
-use Rattle.kinds.proofs.areas.Area.subpool_good.Reads as subpool-good-reads
-use Rattle.storage.proofs.end_of.Reads as end-of-reads
 
 returns : tie.Need-returns
 unfolding areaShapeGood

@@ -11,9 +11,6 @@ use Rattle.lists.specs.Every.{every-fails, every-goes, every-end}
 use Rattle.rules.specs.SoundAreas.{areaShapeGood, areaShapesGood}
 use Rattle.storage.proofs.shapes_good.Statement.{statement}
 use Rattle.storage.proofs.shapes_good.Tie as tie
-use Rattle.storage.proofs.shapes_good.Reads as reads
-use Rattle.storage.proofs.shapes_good.Lts as lts
-use Rattle.storage.proofs.shape_good.Reads as shape-good-reads
 
 abbrev Inv-loop : tie.InvT-loop
 Inv-loop s n i₀ i = (i ≤ n) × (n ≤ 128) × (length (s .areas) ≡ 128) × (every areaShapeGood (take n (s .areas)) ≡ every areaShapeGood (slice i n (s .areas)))

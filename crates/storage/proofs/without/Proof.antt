@@ -13,10 +13,6 @@ use Rattle.storage.specs.Stored.{stored}
 use Rattle.storage.proofs.Sweeps.{room, full, kept, passed}
 use Rattle.storage.proofs.without.Statement.{statement}
 use Rattle.storage.proofs.without.Tie as tie
-use Rattle.storage.proofs.without.Reads as reads
-use Rattle.storage.proofs.without.Lts as lts
-use Rattle.storage.proofs.empty.Reads as empty-reads
-use Rattle.storage.proofs.same_area.Reads as same-area-reads
 
 abbrev Inv-loop : tie.InvT-loop
 Inv-loop a s n r₀ i₀ r i = (i ≤ n) × (n ≤ 128) × (length (s .areas) ≡ 128) × (r ≡ stored (keep (λ (b : Area). not (sameArea a b)) (take i (s .areas))))

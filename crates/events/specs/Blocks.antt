@@ -1,8 +1,8 @@
 -- The ECBs' struct and the list that it stands for; the tally of wait bits. Assumes nothing.
-use Prim.Native.Nat.{ℕ, zero, suc, _+_}
-use mathlib.Core.List.{List, [], _∷_, map}
+use Prim.Native.Nat.{ℕ, _+_}
+use mathlib.Core.List.{List, map}
 use lib.ListN.{replicate}
-use Rattle.lists.specs.Lists.{howMany}
+use Rattle.lists.specs.Lists.{howMany, numbers}
 use Rattle.kinds.specs.Limits.{allEcbs, highestTask}
 use Rattle.kinds.specs.Ecbs.{noEcb}
 use Rattle.kinds.specs.declared.ecbs.Ecb.{Ecb}
@@ -17,14 +17,9 @@ eventsOf es = record { ecbs = es }
 abbrev pub noEvents : List Ecb
 noEvents = replicate allEcbs noEcb
 
--- so many numbers, of which the first is n
-abbrev pub numbers : ℕ → ℕ → List ℕ
-numbers zero n = []
-numbers (suc k) n = n ∷ numbers k (n + 1)
-
 -- how many of the ECBs each task waits on, for so many tasks of which n is the first
 unfoldable pub waitsFrom : ℕ → ℕ → List Ecb → List ℕ
-waitsFrom k n es = map (λ t. howMany (waitedOnBy t) es) (numbers k n)
+waitsFrom k n es = map (λ t. howMany (waitedOnBy t) es) (numbers n k)
 
 abbrev pub tallyOf : List Ecb → Tally
 tallyOf es = record { ecbs = waitsFrom (highestTask + 1) 0 es }

@@ -11,6 +11,7 @@ use lib.ListN.{length, getD, take, set}
 use lib.Seq.{take-suc, length-take-le}
 use borrow.Author.Tests.{eq-eqb, ne-eqb}
 use Rattle.lists.specs.Lists.{howMany, mapAt}
+use Rattle.lists.specs.Numbered.{numbers-at}
 use Rattle.kinds.specs.declared.ecbs.Ecb.{Ecb}
 use Rattle.rules.specs.SoundEcbs.{waitedOnBy}
 use Rattle.events.specs.Blocks.{waitsFrom}
@@ -44,11 +45,7 @@ module _ {A : Type 0} where
 
 pub waits-at : (k n w : ℕ) (es : List Ecb) → w < k → getD (waitsFrom k n es) w 0 ≡ howMany (waitedOnBy (n + w)) es
 unfolding waitsFrom
-waits-at zero n w es h = absurd (omega arith)
-waits-at (suc k) n zero es h = let e : n ≡ n + 0 = omega arith in ap (λ (t : ℕ). howMany (waitedOnBy t) es) e
-waits-at (suc k) n (suc w) es h =
-    let e : (n + 1) + w ≡ n + suc w = omega arith in
-    waits-at k (n + 1) w es (le-of-suc-le-suc h) ∙ ap (λ (t : ℕ). howMany (waitedOnBy t) es) e
+waits-at k n w es h = numbers-at (λ (t : ℕ). howMany (waitedOnBy t) es) 0 n k w h
 
 -- one ECB more, whose waiter is none of these tasks
 waits-off : (k n : ℕ) (p : List Ecb) (x : Ecb) → ((t : ℕ) → n ≤ t → t < n + k → eqb (x .waiter .0) t ≡ false)

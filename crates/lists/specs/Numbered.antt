@@ -1,14 +1,14 @@
 -- Numbered elements: tests, changes and searches along a loop over a whole array, and place by place. Assumes nothing.
 use mathlib.Core.Path.{_≡_, refl, sym, ap, ap₂, _∙_}
 use mathlib.Core.Bool.{Bool, true, false}
-use mathlib.Core.List.{List, [], _∷_}
+use mathlib.Core.List.{List, [], _∷_, map}
 use Prim.Native.Nat.{ℕ, zero, suc, _+_, _≤_, _<_}
 use native.Mathlib.Numerals.{add-one}
 use native.Mathlib.Nat.{le-of-suc-le-suc}
 use native.Mathlib.Omega.{arith}
 use lib.ListN.{length, getD, drop, set, drop-of-length-le}
 use lib.Seq.{drop-cons}
-use Rattle.lists.specs.Lists.{everyAt, mapAt, firstAt}
+use Rattle.lists.specs.Lists.{everyAt, mapAt, firstAt, numbers}
 use Rattle.lists.specs.Bools.{both, join}
 
 module _ {A : Type 0} where
@@ -103,3 +103,13 @@ module _ {A : Type 0} where
   upTo-end f n (suc i) [] h = refl
   upTo-end f n zero (x ∷ l) h = absurd (omega arith)
   upTo-end f n (suc i) (x ∷ l) h = ap (λ (r : List A). f n x ∷ r) (upTo-end f (n + 1) i l (le-of-suc-le-suc h))
+
+-- so many numbers: how many, and what a function gives of them
+pub length-numbers : (n k : ℕ) → length (numbers n k) ≡ k
+length-numbers n zero = refl
+length-numbers n (suc k) = ap suc (length-numbers (n + 1) k)
+
+pub numbers-at : {A : Type 0} (f : ℕ → A) (d : A) (n k i : ℕ) → i < k → getD (map f (numbers n k)) i d ≡ f (n + i)
+numbers-at f d n zero i h = absurd (omega arith)
+numbers-at f d n (suc k) zero h = let e : n ≡ n + 0 = omega arith in ap f e
+numbers-at f d n (suc k) (suc i) h = let e : (n + 1) + i ≡ n + suc i = omega arith in numbers-at f d (n + 1) k i (le-of-suc-le-suc h) ∙ ap f e

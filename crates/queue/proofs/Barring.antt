@@ -2,14 +2,15 @@
 use mathlib.Core.Path.{_≡_, refl, sym, ap, _∙_}
 use mathlib.Core.Bool.{Bool, true, false, not, _&&_, _||_, or-true, or-false, or-assoc, and-true, and-false}
 use mathlib.Core.List.{List, [], _∷_, _++_, map, append-nil}
-use Prim.Native.Nat.{ℕ, zero, suc, _+_, _≤_, _<_}
+use Prim.Native.Nat.{ℕ, _+_, _≤_, _<_}
 use native.Mathlib.Numerals.{add-one}
 use native.Mathlib.Omega.{arith}
 use lib.Dec.{eqb, ltb}
 use lib.ListN.{length, take, getD, set, replicate, length-map, length-set, length-replicate, getD-replicate, List·getD-map}
 use lib.Seq.{slice, slice-empty, take-suc, append-snoc, getD-set-same, getD-set-other, set-out, ext-getD}
 use borrow.Author.Tests.{eqb-true, eqb-false, ltb-false}
-use Rattle.lists.specs.Lists.{every}
+use Rattle.lists.specs.Lists.{every, numbers}
+use Rattle.lists.specs.Numbered.{length-numbers, numbers-at}
 use Rattle.lists.specs.Pick.{pick, pick-true, pick-false}
 use Rattle.lists.specs.Every.{slice-view}
 use Rattle.kinds.specs.Limits.{highestTask}
@@ -18,7 +19,7 @@ use Rattle.rules.specs.Control.{Entry, ofTask, control, lacksFrom, lacks}
 use Rattle.rules.specs.Rings.{bars}
 use Rattle.laws.specs.Control.{free, control-each}
 use Rattle.queue.specs.Queues.{entryOf}
-use Rattle.queue.specs.Marking.{numbers, marksOf, withMark}
+use Rattle.queue.specs.Marking.{marksOf, withMark}
 use Rattle.queue.specs.declared.Marks.{Marks}
 
 -- one more entry: whoever lacked control lacks it, and its task too where it has none
@@ -99,18 +100,9 @@ marked-next es i d m r g h v k e =
     ∙ ap (λ (x : Entry). take i (map entryOf es) ++ (x ∷ [])) (List·getD-map entryOf es i d) in
     rw (e, s) (with-mark m (take i (map entryOf es)) (entryOf (getD es i d)) g v k)
 
-length-numbers : (n k : ℕ) → length (numbers n k) ≡ k
-length-numbers n zero = refl
-length-numbers n (suc k) = ap suc (length-numbers (n + 1) k)
-
-numbers-at : (f : ℕ → Bool) (n k i : ℕ) → i < k → getD (map f (numbers n k)) i false ≡ f (n + i)
-numbers-at f n zero i h = absurd (omega arith)
-numbers-at f n (suc k) zero h = let e : n ≡ n + 0 = omega arith in ap f e
-numbers-at f n (suc k) (suc i) h = let e : (n + 1) + i ≡ n + suc i = omega arith in numbers-at f (n + 1) k i (omega arith) ∙ ap f e
-
 pub mark-at : (q : List Entry) (t : ℕ) → t ≤ highestTask → getD (marksOf q .lacking) t false ≡ lacks t q
 unfolding marksOf
-mark-at q t h = numbers-at (λ (n : ℕ). lacks n q) 0 (highestTask + 1) t (omega arith) ∙ ap (λ (n : ℕ). lacks n q) (zero-plus t)
+mark-at q t h = numbers-at (λ (n : ℕ). lacks n q) false 0 (highestTask + 1) t (omega arith) ∙ ap (λ (n : ℕ). lacks n q) (zero-plus t)
   where
     zero-plus : (n : ℕ) → 0 + n ≡ n
     zero-plus n = omega arith

@@ -1,17 +1,13 @@
 -- Which tasks lack control, for all task numbers at once. Assumes nothing.
 use mathlib.Core.Bool.{Bool, true}
-use mathlib.Core.List.{List, [], _∷_, map}
-use Prim.Native.Nat.{ℕ, zero, suc, _+_}
+use mathlib.Core.List.{List, map}
+use Prim.Native.Nat.{ℕ, _+_}
 use lib.ListN.{set}
+use Rattle.lists.specs.Lists.{numbers}
 use Rattle.lists.specs.Pick.{pick}
 use Rattle.kinds.specs.Limits.{highestTask}
 use Rattle.rules.specs.Control.{Entry, lacks}
 use Rattle.queue.specs.declared.Marks.{Marks}
-
--- so many numbers, of which the first is n
-abbrev pub numbers : ℕ → ℕ → List ℕ
-numbers n zero = []
-numbers n (suc k) = n ∷ numbers (n + 1) k
 
 -- the mark of task number t stands at place t
 unfoldable pub marksOf : List Entry → Marks

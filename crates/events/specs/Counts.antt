@@ -1,7 +1,7 @@
--- Counting wait bits along a loop, and a change of every ECB. Assumes nothing.
+-- Counting wait bits along a loop. Assumes nothing.
 use mathlib.Core.Path.{_≡_, refl, sym, ap, ap₂, _∙_}
-use mathlib.Core.Bool.{Bool, true, false, cond}
-use mathlib.Core.List.{List, [], _∷_, _++_, map}
+use mathlib.Core.Bool.{false}
+use mathlib.Core.List.{List, [], _∷_, _++_}
 use Prim.Native.Nat.{ℕ, zero, suc, _+_, _≤_, _<_}
 use native.Mathlib.Nat.{le-of-suc-le-suc}
 use native.Mathlib.Numerals.{add-one}
@@ -10,38 +10,12 @@ use lib.Dec.{eqb}
 use lib.ListN.{length, getD, take, set}
 use lib.Seq.{take-suc, length-take-le}
 use borrow.Author.Tests.{eq-eqb, ne-eqb}
-use Rattle.lists.specs.Lists.{howMany, mapAt}
+use Rattle.lists.specs.Lists.{howMany}
 use Rattle.lists.specs.Numbered.{numbers-at}
+use Rattle.lists.specs.Setting.{howMany-yes, howMany-no, howMany-few}
 use Rattle.kinds.specs.declared.ecbs.Ecb.{Ecb}
 use Rattle.rules.specs.SoundEcbs.{waitedOnBy}
 use Rattle.events.specs.Blocks.{waitsFrom}
-
-few : (b : Bool) (m n : ℕ) → m ≤ n → cond b (1 + m) m ≤ suc n
-few true m n h = omega arith
-few false m n h = omega arith
-
-module _ {A : Type 0} where
-  pub howMany-yes : (f : A → Bool) (p : List A) (x : A) → f x ≡ true → howMany f (p ++ (x ∷ [])) ≡ howMany f p + 1
-  howMany-yes f [] x e = rw e
-  howMany-yes f (y ∷ p) x e = one (f y) (howMany-yes f p x e)
-    where
-      one : (b : Bool) → howMany f (p ++ (x ∷ [])) ≡ howMany f p + 1
-          → cond b (1 + howMany f (p ++ (x ∷ []))) (howMany f (p ++ (x ∷ []))) ≡ cond b (1 + howMany f p) (howMany f p) + 1
-      one true h = omega arith
-      one false h = h
-
-  pub howMany-no : (f : A → Bool) (p : List A) (x : A) → f x ≡ false → howMany f (p ++ (x ∷ [])) ≡ howMany f p
-  howMany-no f [] x e = rw e
-  howMany-no f (y ∷ p) x e = ap (λ (k : ℕ). cond (f y) (1 + k) k) (howMany-no f p x e)
-
-  pub howMany-few : (f : A → Bool) (l : List A) → howMany f l ≤ length l
-  howMany-few f [] = omega arith
-  howMany-few f (x ∷ l) = few (f x) (howMany f l) (length l) (howMany-few f l)
-
-  -- a change that asks for no number
-  pub mapAt-plain : (f : A → A) (n : ℕ) (l : List A) → mapAt (λ k x. f x) n l ≡ map f l
-  mapAt-plain f n [] = refl
-  mapAt-plain f n (x ∷ l) = ap (λ (r : List A). f x ∷ r) (mapAt-plain f (n + 1) l)
 
 pub waits-at : (k n w : ℕ) (es : List Ecb) → w < k → getD (waitsFrom k n es) w 0 ≡ howMany (waitedOnBy (n + w)) es
 unfolding waitsFrom

@@ -10,15 +10,12 @@ use lib.ListN.{length, getD, drop, drop-of-length-le}
 use lib.Seq.{drop-cons}
 use borrow.Author.Tests.{le-leb, ltb-true, ltb-false, leb-true, leb-false}
 use Rattle.lists.specs.Lists.{every, firstAt}
+use Rattle.lists.specs.Numbered.{firstAt-same}
 use Rattle.lists.specs.Pick.{pick}
 use Rattle.kinds.specs.Tasks.{noTask, isReady}
 use Rattle.kinds.specs.declared.tasks.Task.{Task}
 use Rattle.rules.specs.Dispatch.{noBetter, dispatched}
 use Rattle.family.specs.Highest.{raisedTo, highest, reaching}
-
-pub firstAt-same : {A : Type 0} (p q : A → Bool) → ((x : A) → p x ≡ q x) → (n : ℕ) (l : List A) → firstAt p n l ≡ firstAt q n l
-firstAt-same p q h n [] = refl
-firstAt-same p q h n (x ∷ l) = rw (h x, firstAt-same p q h (n + 1) l)
 
 -- the higher of two numbers is at most d just where both are
 higher : (h y d : ℕ) (t s u : Bool) → ltb h y ≡ t → leb h d ≡ s → leb y d ≡ u → leb (pick t y h) d ≡ (s && u)

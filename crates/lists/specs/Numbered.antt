@@ -33,6 +33,10 @@ module _ {A : Type 0} where
   pub firstAt-end : (p : A → Bool) (m i : ℕ) (l : List A) → length l ≤ i → firstAt p m (drop i l) ≡ 0
   firstAt-end p m i l h = ap (firstAt p m) (drop-of-length-le l h)
 
+  pub firstAt-same : (p q : A → Bool) → ((x : A) → p x ≡ q x) → (n : ℕ) (l : List A) → firstAt p n l ≡ firstAt q n l
+  firstAt-same p q h n [] = refl
+  firstAt-same p q h n (x ∷ l) = rw (h x, firstAt-same p q h (n + 1) l)
+
   -- place by place
   pub everyAt-from : (p : ℕ → A → Bool) (n : ℕ) (l : List A) (d : A) → ((i : ℕ) → i < length l → p (n + i) (getD l i d) ≡ true) → everyAt p n l ≡ true
   everyAt-from p n [] d h = refl
@@ -60,6 +64,11 @@ module _ {A : Type 0} where
   pub length-mapAt : (f : ℕ → A → A) (n : ℕ) (l : List A) → length (mapAt f n l) ≡ length l
   length-mapAt f n [] = refl
   length-mapAt f n (x ∷ l) = ap suc (length-mapAt f (n + 1) l)
+
+  -- a change that asks for no number
+  pub mapAt-plain : (f : A → A) (n : ℕ) (l : List A) → mapAt (λ k x. f x) n l ≡ map f l
+  mapAt-plain f n [] = refl
+  mapAt-plain f n (x ∷ l) = ap (λ (r : List A). f x ∷ r) (mapAt-plain f (n + 1) l)
 
   -- what is changed element by element keeps a test of every element
   pub everyAt-mapAt : (p q : ℕ → A → Bool) (f : ℕ → A → A) → ((k : ℕ) (x : A) → p k x ≡ true → q k (f k x) ≡ true)

@@ -1,8 +1,8 @@
--- One element set, and every element changed: what stays of a test of every element and of a count. Assumes nothing.
+-- One element set, one more, and every element changed: what stays of a test of every element, and what a count comes to. Assumes nothing.
 use mathlib.Core.Path.{_≡_, refl, sym, ap, _∙_}
 use mathlib.Core.Bool.{Bool, true, false, cond, _&&_}
-use mathlib.Core.List.{List, [], _∷_, map}
-use Prim.Native.Nat.{ℕ, zero, suc, _+_, _<_}
+use mathlib.Core.List.{List, [], _∷_, _++_, map}
+use Prim.Native.Nat.{ℕ, zero, suc, _+_, _≤_, _<_}
 use native.Mathlib.Nat.{le-of-suc-le-suc}
 use native.Mathlib.Omega.{arith}
 use lib.ListN.{length, getD, set}
@@ -12,6 +12,10 @@ use Rattle.lists.specs.Bools.{both, join}
 one-fewer : (b : Bool) (m n : ℕ) → suc m ≡ n → suc (cond b (1 + m) m) ≡ cond b (1 + n) n
 one-fewer true m n e = omega arith
 one-fewer false m n e = e
+
+few : (b : Bool) (m n : ℕ) → m ≤ n → cond b (1 + m) m ≤ suc n
+few true m n h = omega arith
+few false m n h = omega arith
 
 module _ {A : Type 0} where
   pub every-at : (f : A → Bool) (l : List A) (i : ℕ) (d : A) → every f l ≡ true → i < length l → f (getD l i d) ≡ true
@@ -49,6 +53,24 @@ module _ {A : Type 0} where
   howMany-less f [] i y d h e k = absurd (omega arith)
   howMany-less f (x ∷ l) zero y d h e k = rw (e, k) (omega arith)
   howMany-less f (x ∷ l) (suc i) y d h e k = one-fewer (f x) (howMany f (set l i y)) (howMany f l) (howMany-less f l i y d (le-of-suc-le-suc h) e k)
+
+  -- one element more, which is counted or not
+  pub howMany-yes : (f : A → Bool) (p : List A) (x : A) → f x ≡ true → howMany f (p ++ (x ∷ [])) ≡ howMany f p + 1
+  howMany-yes f [] x e = rw e
+  howMany-yes f (y ∷ p) x e = one (f y) (howMany-yes f p x e)
+    where
+      one : (b : Bool) → howMany f (p ++ (x ∷ [])) ≡ howMany f p + 1
+          → cond b (1 + howMany f (p ++ (x ∷ []))) (howMany f (p ++ (x ∷ []))) ≡ cond b (1 + howMany f p) (howMany f p) + 1
+      one true h = omega arith
+      one false h = h
+
+  pub howMany-no : (f : A → Bool) (p : List A) (x : A) → f x ≡ false → howMany f (p ++ (x ∷ [])) ≡ howMany f p
+  howMany-no f [] x e = rw e
+  howMany-no f (y ∷ p) x e = ap (λ (k : ℕ). cond (f y) (1 + k) k) (howMany-no f p x e)
+
+  pub howMany-few : (f : A → Bool) (l : List A) → howMany f l ≤ length l
+  howMany-few f [] = omega arith
+  howMany-few f (x ∷ l) = few (f x) (howMany f l) (length l) (howMany-few f l)
 
 module _ {A B : Type 0} (g : A → B) where
   pub every-map : (f : A → Bool) (h : B → Bool) → ((x : A) → f x ≡ true → h (g x) ≡ true) → (l : List A) → every f l ≡ true → every h (map g l) ≡ true

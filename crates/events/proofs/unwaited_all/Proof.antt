@@ -4,13 +4,12 @@ use mathlib.Core.List.{List}
 use native.Mathlib.Omega.{arith}
 use borrow.Author.Needs.{needs}
 use lib.ListN.{length, getD, set}
-use Rattle.lists.specs.Numbered.{upTo, upTo-next, upTo-end}
+use Rattle.lists.specs.Numbered.{mapAt-plain, upTo, upTo-next, upTo-end}
 use Rattle.lists.specs.Arrays.{mapped-length}
 use Rattle.kinds.specs.Ecbs.{noEcb}
 use Rattle.kinds.specs.declared.ecbs.Ecb.{Ecb}
 use Rattle.rules.specs.Events.{unwaited}
 use Rattle.events.specs.Blocks.{eventsOf}
-use Rattle.events.specs.Counts.{mapAt-plain}
 use Rattle.events.proofs.unwaited_all.Statement.{statement}
 use Rattle.events.proofs.unwaited_all.Tie as tie
 

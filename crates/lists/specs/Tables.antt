@@ -2,18 +2,35 @@
 use mathlib.Core.Path.{_≡_, refl, sym, ap, ap₂, _∙_}
 use mathlib.Core.Bool.{Bool, true}
 use mathlib.Core.List.{List, [], _∷_, _++_, map, map-append}
-use Prim.Native.Nat.{ℕ, suc, _+_, _-_, _≤_, _<_}
+use Prim.Native.Nat.{ℕ, zero, suc, _+_, _-_, _≤_, _<_}
 use native.Mathlib.Omega.{arith}
-use lib.ListN.{length, take, drop, set, replicate, length-map, length-append, take-append-drop}
-use lib.Seq.{set-append-seam, append-snoc, length-take-le, take-at}
+use lib.ListN.{length, take, drop, set, replicate, length-map, length-append, length-replicate, take-append-drop}
+use lib.Seq.{set-append-seam, append-snoc, length-take-le, take-at, drop-at}
 use Rattle.lists.specs.Lists.{every, keep}
-use Rattle.lists.specs.Bools.{both}
+use Rattle.lists.specs.Bools.{both, join}
 use Rattle.lists.specs.Keeping.{keep-map, keep-same}
 
 unfoldable pub padded : {A : Type 0} → ℕ → A → List A → List A
 padded size z l = l ++ replicate (size - length l) z
 
+pub every-replicate : {A : Type 0} (p : A → Bool) (a : A) (n : ℕ) → p a ≡ true → every p (replicate n a) ≡ true
+every-replicate p a zero h = refl
+every-replicate p a (suc n) h = join (p a) (every p (replicate n a)) h (every-replicate p a n h)
+
 module _ {A : Type 0} (size : ℕ) (z : A) where
+  -- the size of a table, its rows, and what stands behind them
+  pub padded-length : (l : List A) → length l ≤ size → length (padded size z l) ≡ size
+  unfolding padded
+  padded-length l h = rw (length-append, length-replicate) (omega arith)
+
+  pub padded-take : (l : List A) → take (length l) (padded size z l) ≡ l
+  unfolding padded
+  padded-take l = take-at l (replicate (size - length l) z) (length l) refl
+
+  pub padded-drop : (l : List A) → drop (length l) (padded size z l) ≡ replicate (size - length l) z
+  unfolding padded
+  padded-drop l = drop-at l (replicate (size - length l) z) (length l) refl
+
   pub zeros-eq : (isZero : A → Bool) → ((a : A) → isZero a ≡ true → a ≡ z) → (l : List A) → every isZero l ≡ true → l ≡ replicate (length l) z
   zeros-eq isZero h [] e = refl
   zeros-eq isZero h (a ∷ l) e =

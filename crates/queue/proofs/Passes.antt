@@ -1,17 +1,15 @@
 -- A queue that keeps a list of at most 128 entries with legal names passes the packed test. Assumes nothing.
 use mathlib.Core.Path.{_≡_, refl, ap, _∙_}
-use mathlib.Core.Bool.{Bool, true, false}
+use mathlib.Core.Bool.{true, false}
 use mathlib.Core.List.{List, [], _∷_, map}
-use Prim.Native.Nat.{ℕ, zero, suc, _-_, _≤_}
-use native.Mathlib.Omega.{arith}
+use Prim.Native.Nat.{_-_, _≤_}
 use lib.Dec.{eqb, ltb, leb}
-use lib.ListN.{length, replicate, take, drop, length-map, length-append, length-replicate}
-use lib.Seq.{take-at, drop-at}
+use lib.ListN.{length, take, drop, length-map}
 use borrow.Author.Tests.{le-ltb, eq-eqb, leb-true}
 use Rattle.lists.specs.Pick.{pick-false, chain-not}
 use Rattle.lists.specs.Lists.{every}
 use Rattle.lists.specs.Bools.{both, join}
-use Rattle.lists.specs.Tables.{padded}
+use Rattle.lists.specs.Tables.{padded, padded-length, padded-take, padded-drop, every-replicate}
 use Rattle.kinds.specs.Limits.{mostEntries, longestMinor, majorBytes}
 use Rattle.kinds.specs.Ranges.{between}
 use Rattle.kinds.specs.declared.names.Slot.{Slot}
@@ -19,22 +17,6 @@ use Rattle.rules.specs.Names.{Resource, legal}
 use Rattle.rules.specs.Control.{Entry}
 use Rattle.rules.specs.SoundQueue.{entryNamesGood}
 use Rattle.queue.specs.Queues.{slotOf, zeroSlot, rowsOf, stored, isFine, isZero, allFine, restZero, packedb}
-
-pub every-replicate : {A : Type 0} (p : A → Bool) (a : A) (n : ℕ) → p a ≡ true → every p (replicate n a) ≡ true
-every-replicate p a zero h = refl
-every-replicate p a (suc n) h = join (p a) (every p (replicate n a)) h (every-replicate p a n h)
-
-pub padded-length : {A : Type 0} (size : ℕ) (z : A) (l : List A) → length l ≤ size → length (padded size z l) ≡ size
-unfolding padded
-padded-length size z l h = rw (length-append, length-replicate) (omega arith)
-
-pub padded-take : {A : Type 0} (size : ℕ) (z : A) (l : List A) → take (length l) (padded size z l) ≡ l
-unfolding padded
-padded-take size z l = take-at l (replicate (size - length l) z) (length l) refl
-
-pub padded-drop : {A : Type 0} (size : ℕ) (z : A) (l : List A) → drop (length l) (padded size z l) ≡ replicate (size - length l) z
-unfolding padded
-padded-drop size z l = drop-at l (replicate (size - length l) z) (length l) refl
 
 pub legal-short : (n : Resource) → legal n ≡ true → length (n .minor) ≤ longestMinor
 unfolding legal between

@@ -1,17 +1,17 @@
 -- The laws of the stored form: what is kept shows again, and a storage that passes the test is packed. Assumes nothing.
 use mathlib.Core.Path.{_≡_, refl, sym, ap, _∙_}
 use mathlib.Core.Bool.{true, false}
-use mathlib.Core.List.{List, _++_}
-use Prim.Native.Nat.{ℕ, zero, suc, _-_, _≤_}
+use mathlib.Core.List.{List}
+use Prim.Native.Nat.{ℕ, _-_, _≤_}
 use native.Mathlib.Omega.{arith}
 use lib.Dec.{eqb, ltb}
-use lib.ListN.{length, replicate, drop, length-take, length-drop, length-append, length-replicate}
-use lib.Seq.{length-take-le, take-at, drop-at}
+use lib.ListN.{length, replicate, drop, length-take, length-drop}
+use lib.Seq.{length-take-le}
 use borrow.Author.Tests.{eqb-true, ltb-false, eq-eqb, le-ltb}
 use Rattle.lists.specs.Pick.{chain-not, pick-false}
 use Rattle.lists.specs.Lists.{every}
 use Rattle.lists.specs.Bools.{both, join}
-use Rattle.lists.specs.Tables.{padded, padded-eq, zeros-eq}
+use Rattle.lists.specs.Tables.{padded, padded-eq, padded-length, padded-take, padded-drop, every-replicate, zeros-eq}
 use Rattle.kinds.specs.Areas.{noArea}
 use Rattle.kinds.specs.declared.areas.Area.{Area}
 use Rattle.rules.specs.Storage.{oneHolder, sameArea}
@@ -20,8 +20,7 @@ use Rattle.storage.specs.declared.Storage.{Storage}
 
 -- whatever list is kept shows again
 pub live-stored : (l : List Area) → live (stored l) ≡ l
-unfolding padded
-live-stored l = take-at l (replicate (128 - length l) noArea) (length l) refl
+live-stored l = padded-take 128 noArea l
 
 pub stored-packed : (l : List Area) (s : Storage) → s ≡ stored l → length l ≤ 128 → Packed s
 stored-packed l s e h = record {
@@ -62,21 +61,17 @@ packed-kept s h =
     record { form = sym (λ i. record { areas = p i; count = l i }); room = k }
 
 -- and whatever list of at most 128 areas is kept passes the test
-zeros-pass : (n : ℕ) → every isZero (replicate n noArea) ≡ true
+zero-passes : isZero noArea ≡ true
 unfolding isZero sameArea oneHolder
-zeros-pass zero = refl
-zeros-pass (suc n) = zeros-pass n
+zero-passes = refl
 
 pub stored-full : (l : List Area) → length l ≤ 128 → length (stored l .areas) ≡ 128
-unfolding padded
-stored-full l k = omega (arith, length-append l (replicate (128 - length l) noArea), length-replicate (128 - length l) noArea)
+stored-full l k = padded-length 128 noArea l k
 
 pub stored-passes : (l : List Area) → length l ≤ 128 → packedb (stored l) ≡ true
-unfolding packedb restZero padded
+unfolding packedb restZero
 stored-passes l k =
-    let z : length (replicate (128 - length l) noArea) ≡ 128 - length l = length-replicate (128 - length l) noArea in
-    let n : length (l ++ replicate (128 - length l) noArea) ≡ 128 = omega (arith, length-append l (replicate (128 - length l) noArea)) in
     pick-false (ltb 128 (length l)) false _ (le-ltb 128 (length l) k)
-    ∙ join (eqb (length (l ++ replicate (128 - length l) noArea)) 128) (every isZero (drop (length l) (l ++ replicate (128 - length l) noArea)))
-    (eq-eqb _ 128 n)
-    (ap (every isZero) (drop-at l (replicate (128 - length l) noArea) (length l) refl) ∙ zeros-pass (128 - length l))
+    ∙ join (eqb (length (padded 128 noArea l)) 128) (every isZero (drop (length l) (padded 128 noArea l)))
+    (eq-eqb (length (padded 128 noArea l)) 128 (stored-full l k))
+    (ap (every isZero) (padded-drop 128 noArea l) ∙ every-replicate isZero noArea (128 - length l) zero-passes)

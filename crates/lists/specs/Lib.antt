@@ -2,6 +2,7 @@ pub mod Lists
 pub mod Pick
 pub mod Bools
 pub mod Every
+pub mod Pairs
 pub mod Keeping
 pub mod Numbered
 pub mod Setting

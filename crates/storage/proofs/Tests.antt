@@ -9,7 +9,7 @@ use borrow.Author.Tests.{le-leb, lt-leb, lt-ltb, ltb-true}
 use Rattle.kinds.specs.declared.areas.Area.{Area}
 use Rattle.rules.specs.Storage.{startOf, endOf, firstPage, pastPage, bytesApart, oneHolder, pagesApart, apart}
 use Rattle.rules.specs.SoundAreas.{areasFit}
-use Rattle.storage.specs.Pairs.{Chains}
+use Rattle.lists.specs.Pairs.{Chains}
 use Rattle.storage.specs.Stored.{live}
 use Rattle.storage.specs.declared.Storage.{Storage}
 

@@ -1,4 +1,3 @@
 pub mod Stored
 pub mod Kept
-pub mod Pairs
 pub mod Changes

@@ -10,7 +10,7 @@ use Rattle.lists.specs.Lists.{every, pairwise}
 use Rattle.lists.specs.Arrays.{mapped-length}
 use Rattle.rules.specs.Storage.{apart}
 use Rattle.rules.specs.SoundAreas.{areasApart}
-use Rattle.storage.specs.Pairs.{pairs-end, pairs-next, inner-fails, inner-goes, inner-end}
+use Rattle.lists.specs.Pairs.{pairs-end, pairs-next, inner-fails, inner-goes, inner-end}
 use Rattle.storage.proofs.areas_apart.Statement.{statement}
 use Rattle.storage.proofs.areas_apart.Tie as tie
 

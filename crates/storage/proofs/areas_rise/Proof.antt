@@ -8,7 +8,7 @@ use lib.Seq.{slice}
 use Rattle.lists.specs.Lists.{pairwise}
 use Rattle.lists.specs.Arrays.{mapped-length}
 use Rattle.rules.specs.SoundAreas.{areasRise}
-use Rattle.storage.specs.Pairs.{pairs-last, neighbours-fail, neighbours-go}
+use Rattle.lists.specs.Pairs.{pairs-last, neighbours-fail, neighbours-go}
 use Rattle.storage.proofs.Tests.{rises, rises-chain}
 use Rattle.storage.proofs.areas_rise.Statement.{statement}
 use Rattle.storage.proofs.areas_rise.Tie as tie

@@ -7,7 +7,7 @@ use kinds::TaskNumber;
 ghost use mathlib.Core.Path.{_≡_};
 ghost use Prim.Native.Nat.{_≤_};
 ghost use Rattle.kinds.specs.Limits.{lowestTask, highestTask};
-ghost use Rattle.rules.specs.Family.{place, withPlace, below};
+ghost use Rattle.rules.specs.Family.{place, live, withPlace, below};
 ghost use Rattle.family.specs.Families.{familyOf, nobody};
 
 pub struct Family {
@@ -37,6 +37,14 @@ pub fn at(f: Family, n: TaskNumber) -> Task
     }
     let i = (k - 1) as usize;
     f.places[i]
+}
+
+pub fn is_live(f: Family, n: TaskNumber) -> bool
+    ensures { λ r. ⌜ r ≡ live (f .places) (n .0) ⌝ }
+{
+    let x = at(f, n);
+    let k = x.condition;
+    k.is_live()
 }
 
 // The task table with x at place n.

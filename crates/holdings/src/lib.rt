@@ -1,34 +1,24 @@
 // Areas and their owners: the storage beside the task table.
 use family::Family;
 use kinds::Area;
-use kinds::TaskNumber;
 use storage::Storage;
 ghost use mathlib.Core.Path.{_≡_};
 ghost use Rattle.lists.specs.Lists.{keep};
 ghost use Prim.Native.Nat.{_≤_};
 ghost use Rattle.kinds.specs.Limits.{mostAreas};
-ghost use Rattle.rules.specs.Family.{live as isLive};
 ghost use Rattle.rules.specs.SoundAreas.{areaOwnerGood, areaOwnersGood};
 ghost use Rattle.rules.specs.Ending.{areaStays};
 ghost use Rattle.storage.specs.Stored.{live, stored, Packed};
-
-fn is_live(f: Family, t: TaskNumber) -> bool
-    ensures { λ r. ⌜ r ≡ isLive (f .places) (t .0) ⌝ }
-{
-    let x = family::at(f, t);
-    let k = x.condition;
-    k.is_live()
-}
 
 // Of the step, in subpool 0, or else of a live task.
 pub fn owner_good(f: Family, a: Area) -> bool
     ensures { λ r. ⌜ r ≡ areaOwnerGood (f .places) a ⌝ }
 {
-    let t = a.owner;
+    let owner = a.owner;
     if a.subpool == 0 {
-        return t.0 == 0;
+        return owner.0 == 0;
     }
-    is_live(f, t)
+    family::is_live(f, owner)
 }
 
 pub fn owners_good(s: Storage, f: Family) -> bool
@@ -55,7 +45,7 @@ pub fn stays(f: Family, a: Area) -> bool
         return true;
     }
     let t = a.owner;
-    is_live(f, t)
+    family::is_live(f, t)
 }
 
 // The storage without the areas of tasks that are not live. What stays is stored here: a call would copy the table.

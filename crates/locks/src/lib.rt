@@ -8,17 +8,8 @@ ghost use Prim.Native.Nat.{_≤_};
 ghost use Rattle.lists.specs.Lists.{alike};
 ghost use Rattle.kinds.specs.Limits.{mostEntries};
 ghost use Rattle.kinds.specs.Tasks.{inResourceWait};
-ghost use Rattle.rules.specs.Family.{live as liveTask};
 ghost use Rattle.rules.specs.SoundQueue.{entriesLive, waitsGood};
 ghost use Rattle.queue.specs.Queues.{live};
-
-pub fn is_live(f: Family, n: TaskNumber) -> bool
-    ensures { λ r. ⌜ r ≡ liveTask (f .places) (n .0) ⌝ }
-{
-    let x = family::at(f, n);
-    let k = x.condition;
-    k.is_live()
-}
 
 // Each entry is of a live task.
 pub fn entries_live(q: Queue, f: Family) -> bool
@@ -30,7 +21,7 @@ pub fn entries_live(q: Queue, f: Family) -> bool
     while i < n {
         let x = q.slots[i];
         let t = x.task;
-        if !is_live(f, t) {
+        if !family::is_live(f, t) {
             return false;
         }
         i += 1;

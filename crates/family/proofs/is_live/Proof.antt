@@ -1,9 +1,9 @@
 use mathlib.Core.Path.{ap, _∙_}
-use borrow.Author.Needs.{needs}
 use Rattle.kinds.specs.Tasks.{isLive}
 use Rattle.kinds.specs.declared.tasks.Task.{Task}
-use Rattle.holdings.proofs.is_live.Statement.{statement}
-use Rattle.holdings.proofs.is_live.Tie as tie
+use borrow.Author.Needs.{needs}
+use Rattle.family.proofs.is_live.Statement.{statement}
+use Rattle.family.proofs.is_live.Tie as tie
 
 at-requires : tie.Need-at-requires
 at-requires c κs = search needs
@@ -12,7 +12,7 @@ is-live-requires : tie.Need-is-live-requires
 is-live-requires c κs = search needs
 
 returns : tie.Need-returns
-returns c = c .is-live .ensures ∙ ap (λ (x : Task). isLive (x .condition)) (c .before .at .ensures)
+returns c = (c .is-live) .ensures ∙ ap (λ (x : Task). isLive (x .condition)) ((c .before .at) .ensures)
 
 pub is-live-spec : {M : Type 1} → statement M
 is-live-spec = tie.close (tie.spec at-requires is-live-requires returns)

@@ -1,0 +1,56 @@
+use Prim.Native.Nat.{_≤_, _-_}
+use mathlib.Core.Path.{_≡_, _∙_}
+use native.Mathlib.Omega.{arith}
+use borrow.Author.Needs.{needs}
+use lib.ListN.{length, length-set}
+use Rattle.lists.specs.Arrays.{mapped-length}
+use Rattle.cost.proofs.full_family.Statement.{statement}
+use Rattle.cost.proofs.full_family.Tie as tie
+use Rattle.cost.proofs.full_family.Reads as reads
+use Rattle.cost.proofs.full_family.Lts as lts
+use Rattle.family.proofs.empty.Reads as empty-reads
+
+abbrev Inv-loop : tie.InvT-loop
+Inv-loop f₀ i₀ f i = (i ≤ 32) × (length (f .places) ≡ 32)
+
+abbrev μ-loop : tie.MeasureT-loop
+μ-loop f₀ i₀ f i = 32 - i
+
+empty-requires : tie.Need-empty-requires Inv-loop μ-loop
+empty-requires c κs = search needs
+
+loop-holds : tie.Need-loop-holds Inv-loop μ-loop
+loop-holds c = (omega arith, search (needs, mapped-length))
+
+mul-x : tie.Need-mul-x Inv-loop μ-loop
+mul-x c = omega arith
+
+element-set-from-x : tie.Need-element-set-from-x Inv-loop μ-loop
+element-set-from-x c = omega arith
+
+add-i : tie.Need-add-i Inv-loop μ-loop
+add-i c = omega arith
+
+loop-less : tie.Need-loop-less Inv-loop μ-loop
+loop-less c = omega arith
+
+loop-again : tie.Need-loop-again Inv-loop μ-loop
+loop-again c = (omega arith, simp length-set (omega arith))
+
+returns : tie.Need-returns Inv-loop μ-loop
+returns c = search needs
+
+pub full-family-spec : {M : Type 1} → statement M
+full-family-spec =
+    tie.close
+    (tie.spec
+    Inv-loop
+    μ-loop
+    empty-requires
+    loop-holds
+    mul-x
+    element-set-from-x
+    add-i
+    loop-less
+    loop-again
+    returns)

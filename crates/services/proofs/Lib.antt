@@ -1,1 +1,2 @@
 pub mod Glue
+pub mod Leaves

@@ -57,8 +57,8 @@ pub fn areas_good(s: Storage, f: Family) -> bool
     let b = storage::shapes_good(s);
     let d = holdings::owners_good(s, f);
     let e = storage::areas_rise(s);
-    let g = storage::areas_apart(s);
-    a & (b & (d & (e & g)))
+    let h = storage::areas_apart(s);
+    a & (b & (d & (e & h)))
 }
 
 // How many places there are.

@@ -1,0 +1,126 @@
+-- What a service leaves of sound tables is sound, and no second answer fits a promise. Assumes nothing.
+use mathlib.Core.Path.{_≡_, refl, sym, ap, _∙_}
+use mathlib.Core.Bool.{Bool, true, false, _&&_, true≢false}
+use mathlib.Core.List.{List, [], _∷_}
+use native.Mathlib.Omega.{arith}
+use Rattle.lists.specs.Lists.{every, none}
+use Rattle.kinds.specs.Ranges.{endCodeGood}
+use Rattle.rules.specs.Control.{Entry}
+use Rattle.rules.specs.SoundTasks.{tasksFit, zeroTask}
+use Rattle.rules.specs.SoundEcbs.{ecbsFit, zeroEcb}
+use Prim.Native.Nat.{ℕ, _≤_}
+use lib.ListN.{length}
+use borrow.Author.Tests.{leb-true}
+use Rattle.lists.specs.Pick.{pick, pick-true}
+use Rattle.lists.specs.Bools.{both}
+use Rattle.kinds.proofs.Once.{reply-once}
+use Rattle.kinds.specs.declared.numbers.TaskNumber.{TaskNumber}
+use Rattle.kinds.specs.declared.numbers.EcbNumber.{EcbNumber}
+use Rattle.rules.specs.Steps.{Step, Outcome, keptBy}
+use Rattle.rules.specs.SoundQueue.{queueFits, entryNamesGood}
+use Rattle.rules.specs.SoundAreas.{areasFit}
+use Rattle.rules.specs.Sound.{overGood, runningGood, soundStep}
+use Rattle.rules.specs.Clear.{clearOf}
+use Rattle.rules.specs.Post.{postOf}
+use Rattle.rules.specs.Dispatch.{dispatchOf}
+use Rattle.rules.specs.Fresh.{freshOf}
+use Rattle.laws.specs.Running.{Running, running-parts}
+use Rattle.laws.specs.Kept.{Sound, clear-sound, post-sound, dispatch-sound, fresh-sound}
+use Rattle.queue.specs.Queues.{stored, packedb}
+use Rattle.queue.proofs.Views.{live-stored}
+use Rattle.queue.proofs.Passes.{stored-passes as queue-passes}
+use Rattle.storage.specs.Stored.{stored as storedAreas, packedb as packedAreas}
+use Rattle.storage.specs.Kept.{live-stored as live-areas, stored-passes as areas-pass}
+use Rattle.services.specs.Kept.{stepOf, tablesOf, said, soundb, answered}
+use Rattle.services.specs.declared.Tables.{Tables}
+use Rattle.services.specs.declared.Answer.{Answer}
+use Rattle.services.proofs.Glue.{sound-step}
+
+-- THE STEP AND THE TABLES
+
+-- whatever step is kept shows again
+pub step-tables : (s : Step) → stepOf (tablesOf s) ≡ s
+step-tables s = λ i. record {
+  over = s .over;
+  code = s .code;
+  tasks = s .tasks;
+  queue = live-stored (s .queue) i;
+  ecbs = s .ecbs;
+  areas = live-areas (s .areas) i;
+}
+
+-- what a sound step asks of the tables that keep it
+record Room (s : Step) : Type 0 where
+  pub queue : length (s .queue) ≤ 128
+  pub names : entryNamesGood (s .queue) ≡ true
+  pub areas : length (s .areas) ≤ 128
+
+none-few : {A : Type 0} (l : List A) → none l ≡ true → length l ≤ 128
+none-few [] h = omega arith
+none-few (x ∷ l) h = absurd (true≢false (sym h))
+
+none-named : (q : List Entry) → none q ≡ true → entryNamesGood q ≡ true
+unfolding entryNamesGood
+none-named [] h = refl
+none-named (e ∷ q) h = absurd (true≢false (sym h))
+
+running-room : (s : Step) → Running s → Room s
+unfolding queueFits areasFit
+running-room s h = record { queue = leb-true (length (s .queue)) 128 (h .fits); names = h .names; areas = leb-true (length (s .areas)) 128 (h .areas) }
+
+over-room : (s : Step) → overGood s ≡ true → Room s
+unfolding overGood
+over-room s h =
+    let a = both (endCodeGood (s .code)) _ h in
+    let b = both (every zeroTask (s .tasks)) _ (a .1) in
+    let d = both (none (s .queue)) _ (b .1) in
+    let e = both (every zeroEcb (s .ecbs)) _ (d .1) in
+    record { queue = none-few (s .queue) (d .0); names = none-named (s .queue) (d .0); areas = none-few (s .areas) (e .1) }
+
+sound-room : (s : Step) → Sound s → Room s
+unfolding soundStep
+sound-room s h = one (s .over) refl
+  where
+    one : (b : Bool) → s .over ≡ b → Room s
+    one true o = over-room s (sym (pick-true (s .over) (overGood s) (runningGood s) o) ∙ both (tasksFit (s .tasks) && ecbsFit (s .ecbs)) _ h .1)
+    one false o = running-room s (running-parts s h o)
+
+-- a sound step is kept in sound tables
+pub sound-kept : (s : Step) → Sound s → soundb (tablesOf s) ≡ true
+unfolding soundb
+sound-kept s h =
+    let r = sound-room s h in
+    pick-true (packedb (stored (s .queue))) _ false (queue-passes (s .queue) (r .queue) (r .names))
+    ∙ pick-true (packedAreas (storedAreas (s .areas))) _ false (areas-pass (s .areas) (r .areas))
+    ∙ ap soundStep (step-tables s) ∙ h
+
+-- WHAT A SERVICE LEAVES
+
+module _ (t : Tables) (f : Step → Outcome Step) (h : soundb t ≡ true) where
+  pub answered-is : answered t f ≡ keptBy tablesOf (f (stepOf t))
+  unfolding answered
+  answered-is = pick-true (soundb t) _ _ h
+
+  pub answered-sound : ((s : Step) → Sound s → Sound (f s .tables)) → soundb (answered t f .tables) ≡ true
+  answered-sound k = ap (λ (o : Outcome Tables). soundb (o .tables)) answered-is ∙ sound-kept (f (stepOf t) .tables) (k (stepOf t) (sound-step t h))
+
+pub clear-leaves-sound : (t : Tables) (c : TaskNumber) (e : EcbNumber) → soundb t ≡ true → soundb (answered t (λ s. clearOf s c e) .tables) ≡ true
+clear-leaves-sound t c e h = answered-sound t (λ s. clearOf s c e) h (λ s k. clear-sound s c e k)
+
+pub post-leaves-sound : (t : Tables) (c : TaskNumber) (e : EcbNumber) (code : ℕ) → soundb t ≡ true → soundb (answered t (λ s. postOf s c e code) .tables) ≡ true
+post-leaves-sound t c e code h = answered-sound t (λ s. postOf s c e code) h (λ s k. post-sound s c e code k)
+
+pub dispatch-leaves-sound : (t : Tables) → soundb t ≡ true → soundb (answered t dispatchOf .tables) ≡ true
+dispatch-leaves-sound t h = answered-sound t dispatchOf h dispatch-sound
+
+pub fresh-leaves-sound : (limit dispatching : ℕ) → soundb (keptBy tablesOf (freshOf limit dispatching) .tables) ≡ true
+fresh-leaves-sound limit dispatching = sound-kept (freshOf limit dispatching .tables) (fresh-sound limit dispatching)
+
+-- NO SECOND ANSWER
+
+-- the number and the value tell the reply, so two answers that say the same are one
+pub answer-once : (a b : Answer) → said a ≡ said b → a ≡ b
+answer-once a b e = λ i. record {
+  tables = e i .tables;
+  reply = reply-once (a .reply) (b .reply) (ap (λ (o : Outcome Tables). o .number) e) (ap (λ (o : Outcome Tables). o .besides) e) i;
+}

@@ -7,6 +7,7 @@ ghost use mathlib.Core.List.{map};
 ghost use Prim.Native.Nat.{_≤_};
 ghost use lib.ListN.{set};
 ghost use Rattle.lists.specs.Lists.{every};
+ghost use Rattle.kinds.specs.Limits.{highestEcb};
 ghost use Rattle.rules.specs.Events.{ecbAt, wordOf, unwaited as unwaitedOf, completed as completedOf};
 ghost use Rattle.rules.specs.SoundEcbs.{ecbsFit, ecbWordGood, ecbWordsGood, zeroEcb};
 ghost use Rattle.events.specs.Blocks.{eventsOf, noEvents, tallyOf};
@@ -130,7 +131,7 @@ pub fn all_zero(e: Events) -> bool
 }
 
 pub fn with_ecb(e: Events, n: EcbNumber, x: Ecb) -> Events
-    requires { ⌜ n .0 ≤ 63 ⌝ }
+    requires { ⌜ n .0 ≤ highestEcb ⌝ }
     ensures { λ r. ⌜ r ≡ eventsOf (set (e .ecbs) (n .0) x) ⌝ }
 {
     let i = n.0 as usize;

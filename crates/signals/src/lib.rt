@@ -6,6 +6,7 @@ use kinds::EcbNumber;
 use kinds::TaskNumber;
 ghost use mathlib.Core.Path.{_≡_};
 ghost use Prim.Native.Nat.{_≤_, _<_};
+ghost use Rattle.kinds.specs.Limits.{highestTask, highestEcb};
 ghost use Rattle.kinds.specs.Tasks.{inEcbWait};
 ghost use Rattle.rules.specs.Events.{onePostFewer, bitsLeft, comesTo, woken as wokenOf, signalled};
 ghost use Rattle.rules.specs.SoundEcbs.{waitersGood, needGood, needsGood};
@@ -113,7 +114,7 @@ fn bits_left(e: Events, w: TaskNumber, k: Condition) -> Events
 }
 
 fn comes_to(e: Events, f: Family, w: TaskNumber, k: Condition) -> Signals
-    requires { ⌜ (0 < w .0) × (w .0 ≤ 32) ⌝ }
+    requires { ⌜ (0 < w .0) × (w .0 ≤ highestTask) ⌝ }
     ensures { λ r. ⌜ r ≡ signalsOf (comesTo (f .places) (e .ecbs) (w .0) k) ⌝ }
 {
     let x = family::at(f, w);
@@ -152,7 +153,7 @@ fn woken(d: Events, f: Family, w: TaskNumber) -> Signals
 
 // A complete ECB stays as it is.
 pub fn post(e: Events, f: Family, n: EcbNumber, code: u32) -> Signals
-    requires { ⌜ n .0 ≤ 63 ⌝ }
+    requires { ⌜ n .0 ≤ highestEcb ⌝ }
     ensures { λ r. ⌜ r ≡ signalsOf (signalled (f .places) (e .ecbs) (n .0) code) ⌝ }
 {
     let old = events::at(e, n);

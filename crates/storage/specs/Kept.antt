@@ -13,6 +13,7 @@ use Rattle.lists.specs.Lists.{every}
 use Rattle.lists.specs.Bools.{both, join}
 use Rattle.lists.specs.Tables.{padded, padded-eq, padded-length, padded-take, padded-drop, every-replicate, zeros-eq}
 use Rattle.kinds.specs.Areas.{noArea}
+use Rattle.kinds.specs.Limits.{mostAreas}
 use Rattle.kinds.specs.declared.areas.Area.{Area}
 use Rattle.rules.specs.Storage.{oneHolder, sameArea}
 use Rattle.storage.specs.Stored.{live, stored, Packed, isZero, restZero, packedb}
@@ -22,13 +23,13 @@ use Rattle.storage.specs.declared.Storage.{Storage}
 pub live-stored : (l : List Area) → live (stored l) ≡ l
 live-stored l = padded-take 128 noArea l
 
-pub stored-packed : (l : List Area) (s : Storage) → s ≡ stored l → length l ≤ 128 → Packed s
+pub stored-packed : (l : List Area) (s : Storage) → s ≡ stored l → length l ≤ mostAreas → Packed s
 stored-packed l s e h = record {
   form = e ∙ ap stored (sym (live-stored l)) ∙ ap (λ (t : Storage). stored (live t)) (sym e);
   room = omega (arith, ap (λ (t : Storage). t .count) e);
 }
 
-pub live-length : (s : Storage) → Packed s → length (live s) ≤ 128
+pub live-length : (s : Storage) → Packed s → length (live s) ≤ mostAreas
 live-length s p = rw (length-take) (omega (arith, p .room))
 
 -- a place that passes the test is an unused one
@@ -65,10 +66,10 @@ zero-passes : isZero noArea ≡ true
 unfolding isZero sameArea oneHolder
 zero-passes = refl
 
-pub stored-full : (l : List Area) → length l ≤ 128 → length (stored l .areas) ≡ 128
+pub stored-full : (l : List Area) → length l ≤ mostAreas → length (stored l .areas) ≡ mostAreas
 stored-full l k = padded-length 128 noArea l k
 
-pub stored-passes : (l : List Area) → length l ≤ 128 → packedb (stored l) ≡ true
+pub stored-passes : (l : List Area) → length l ≤ mostAreas → packedb (stored l) ≡ true
 unfolding packedb restZero
 stored-passes l k =
     pick-false (ltb 128 (length l)) false _ (le-ltb 128 (length l) k)

@@ -18,8 +18,8 @@ abbrev pub noEvents : List Ecb
 noEvents = replicate allEcbs noEcb
 
 -- how many of the ECBs each task waits on, for so many tasks of which n is the first
-unfoldable pub waitsFrom : ℕ → ℕ → List Ecb → List ℕ
-waitsFrom k n es = map (λ t. howMany (waitedOnBy t) es) (numbers n k)
+unfoldable pub tallyFrom : ℕ → ℕ → List Ecb → List ℕ
+tallyFrom k n es = map (λ t. howMany (waitedOnBy t) es) (numbers n k)
 
 abbrev pub tallyOf : List Ecb → Tally
-tallyOf es = record { ecbs = waitsFrom (highestTask + 1) 0 es }
+tallyOf es = record { ecbs = tallyFrom (highestTask + 1) 0 es }

@@ -15,16 +15,16 @@ use Rattle.lists.specs.Numbered.{numbers-at}
 use Rattle.lists.specs.Setting.{howMany-yes, howMany-no, howMany-few}
 use Rattle.kinds.specs.declared.ecbs.Ecb.{Ecb}
 use Rattle.rules.specs.SoundEcbs.{waitedOnBy}
-use Rattle.events.specs.Blocks.{waitsFrom}
+use Rattle.events.specs.Blocks.{tallyFrom}
 
-pub waits-at : (k n w : ℕ) (es : List Ecb) → w < k → getD (waitsFrom k n es) w 0 ≡ howMany (waitedOnBy (n + w)) es
-unfolding waitsFrom
+pub waits-at : (k n w : ℕ) (es : List Ecb) → w < k → getD (tallyFrom k n es) w 0 ≡ howMany (waitedOnBy (n + w)) es
+unfolding tallyFrom
 waits-at k n w es h = numbers-at (λ (t : ℕ). howMany (waitedOnBy t) es) 0 n k w h
 
 -- one ECB more, whose waiter is none of these tasks
 waits-off : (k n : ℕ) (p : List Ecb) (x : Ecb) → ((t : ℕ) → n ≤ t → t < n + k → eqb (x .waiter .0) t ≡ false)
-    → waitsFrom k n (p ++ (x ∷ [])) ≡ waitsFrom k n p
-unfolding waitsFrom
+    → tallyFrom k n (p ++ (x ∷ [])) ≡ tallyFrom k n p
+unfolding tallyFrom
 waits-off zero n p x h = refl
 waits-off (suc k) n p x h =
     ap₂ (λ (c : ℕ) (l : List ℕ). c ∷ l)
@@ -33,8 +33,8 @@ waits-off (suc k) n p x h =
 
 -- one ECB more, whose waiter is task n + w
 waits-on : (k n w : ℕ) (p : List Ecb) (x : Ecb) → w < k → x .waiter .0 ≡ n + w
-    → set (waitsFrom k n p) w (howMany (waitedOnBy (n + w)) p + 1) ≡ waitsFrom k n (p ++ (x ∷ []))
-unfolding waitsFrom
+    → set (tallyFrom k n p) w (howMany (waitedOnBy (n + w)) p + 1) ≡ tallyFrom k n (p ++ (x ∷ []))
+unfolding tallyFrom
 waits-on zero n w p x h q = absurd (omega arith)
 waits-on (suc k) n zero p x h q =
     let e : n + 0 ≡ n = omega arith in
@@ -45,11 +45,11 @@ waits-on (suc k) n (suc w) p x h q =
     let e : n + suc w ≡ (n + 1) + w = omega arith in
     ap₂ (λ (c : ℕ) (l : List ℕ). c ∷ l)
     (sym (howMany-no (waitedOnBy n) p x (ne-eqb _ _ (λ (z : x .waiter .0 ≡ n). omega arith))))
-    (ap (λ (t : ℕ). set (waitsFrom k (n + 1) p) w (howMany (waitedOnBy t) p + 1)) e
+    (ap (λ (t : ℕ). set (tallyFrom k (n + 1) p) w (howMany (waitedOnBy t) p + 1)) e
     ∙ waits-on k (n + 1) w p x (le-of-suc-le-suc h) (q ∙ e))
 
 -- a loop that counts for k tasks, the first of which is 0: the ECB at place i is counted, or is none of theirs
-module _ (k : ℕ) (es : List Ecb) (i : ℕ) (d : Ecb) (l : List ℕ) (h : i < length es) (v : l ≡ waitsFrom k 0 (take i es)) where
+module _ (k : ℕ) (es : List Ecb) (i : ℕ) (d : Ecb) (l : List ℕ) (h : i < length es) (v : l ≡ tallyFrom k 0 (take i es)) where
   pub counted-few : (w : ℕ) → w < k → getD l w 0 ≤ i
   counted-few w m =
       let a : getD l w 0 ≡ howMany (waitedOnBy (0 + w)) (take i es) = ap (λ (r : List ℕ). getD r w 0) v ∙ waits-at k 0 w (take i es) m in
@@ -57,20 +57,20 @@ module _ (k : ℕ) (es : List Ecb) (i : ℕ) (d : Ecb) (l : List ℕ) (h : i < l
       let z : length (take i es) ≡ i = length-take-le i es (omega arith) in
       omega arith
 
-  one-more : waitsFrom k 0 (take i es ++ (getD es i d ∷ [])) ≡ waitsFrom k 0 (take (i + 1) es)
+  one-more : tallyFrom k 0 (take i es ++ (getD es i d ∷ [])) ≡ tallyFrom k 0 (take (i + 1) es)
   one-more =
       let e : take i es ++ (getD es i d ∷ []) ≡ take (i + 1) es = rw (add-one) (sym (take-suc es i d h)) in
-      ap (waitsFrom k 0) e
+      ap (tallyFrom k 0) e
 
-  pub counted : (w : ℕ) → w < k → getD es i d .waiter .0 ≡ w → set l w (getD l w 0 + 1) ≡ waitsFrom k 0 (take (i + 1) es)
+  pub counted : (w : ℕ) → w < k → getD es i d .waiter .0 ≡ w → set l w (getD l w 0 + 1) ≡ tallyFrom k 0 (take (i + 1) es)
   counted w m q =
       let z : getD es i d .waiter .0 ≡ 0 + w = omega (arith, q) in
       ap (λ (r : List ℕ). set r w (getD r w 0 + 1)) v
-      ∙ ap (λ (a : ℕ). set (waitsFrom k 0 (take i es)) w (a + 1)) (waits-at k 0 w (take i es) m)
+      ∙ ap (λ (a : ℕ). set (tallyFrom k 0 (take i es)) w (a + 1)) (waits-at k 0 w (take i es) m)
       ∙ waits-on k 0 w (take i es) (getD es i d) m z
       ∙ one-more
 
-  pub not-counted : k ≤ getD es i d .waiter .0 → l ≡ waitsFrom k 0 (take (i + 1) es)
+  pub not-counted : k ≤ getD es i d .waiter .0 → l ≡ tallyFrom k 0 (take (i + 1) es)
   not-counted q =
       v
       ∙ sym (waits-off k 0 (take i es) (getD es i d) (λ t a b. ne-eqb _ _ (λ (z : getD es i d .waiter .0 ≡ t). omega arith)))

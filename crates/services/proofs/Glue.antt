@@ -28,7 +28,7 @@ use Rattle.rules.specs.Sound.{soundTasks, soundQueue, soundEcbs, soundAreas, ov
 use Rattle.rules.specs.Admission.{admitted, gateOf, through, settled}
 use Rattle.family.specs.Families.{familyOf}
 use Rattle.events.specs.Blocks.{eventsOf}
-use Rattle.soundness.specs.Rules.{running, ended}
+use Rattle.soundness.specs.Rules.{runningRules, overRules}
 use Rattle.queue.specs.Queues.{live, packedb}
 use Rattle.queue.proofs.Views.{packed-kept as queue-kept}
 use Rattle.storage.specs.Stored.{live as liveAreas, packedb as packedAreas}
@@ -124,12 +124,12 @@ module _ (t : Tables) (c : TaskNumber) (o : Outcome Step) (s : Outcome Tables) (
 -- THE TESTS OF THE TABLES, AND OF A CALLER
 
 module _ (t : Tables) (p : packedb (t .queue) ≡ true) (q : packedAreas (t .storage) ≡ true) where
-  pub sound-running : t .over ≡ false → running (t .code) (t .family .places) (live (t .queue)) (t .events .ecbs) (liveAreas (t .storage)) ≡ soundb t
-  unfolding soundb soundStep runningGood soundTasks soundQueue soundEcbs soundAreas running pick
+  pub sound-running : t .over ≡ false → runningRules (t .code) (t .family .places) (live (t .queue)) (t .events .ecbs) (liveAreas (t .storage)) ≡ soundb t
+  unfolding soundb soundStep runningGood soundTasks soundQueue soundEcbs soundAreas runningRules pick
   sound-running o = rw (p, q, o)
 
-  pub sound-over : t .over ≡ true → ended (t .code) (t .family .places) (live (t .queue)) (t .events .ecbs) (liveAreas (t .storage)) ≡ soundb t
-  unfolding soundb soundStep overGood ended pick
+  pub sound-over : t .over ≡ true → overRules (t .code) (t .family .places) (live (t .queue)) (t .events .ecbs) (liveAreas (t .storage)) ≡ soundb t
+  unfolding soundb soundStep overGood overRules pick
   sound-over o = rw (p, q, o)
 
 pub unpacked-queue : (t : Tables) → packedb (t .queue) ≡ false → false ≡ soundb t

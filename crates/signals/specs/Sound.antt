@@ -1,6 +1,6 @@
 -- The rules on waiters as loops test them: ECB by ECB, and task by task with the tally at hand. Assumes nothing.
 use mathlib.Core.Path.{_≡_, refl, ap, ap₂, _∙_}
-use mathlib.Core.Bool.{Bool, true, false, not, _&&_, _||_}
+use mathlib.Core.Bool.{Bool, true, false, _&&_}
 use mathlib.Core.List.{List, [], _∷_}
 use Prim.Native.Nat.{ℕ, _+_, _-_, _≤_, _<_}
 use native.Mathlib.Omega.{arith}
@@ -11,27 +11,21 @@ use Rattle.kinds.specs.Tasks.{noTask, inEcbWait}
 use Rattle.kinds.specs.declared.ecbs.Ecb.{Ecb}
 use Rattle.kinds.specs.declared.tasks.Task.{Task}
 use Rattle.rules.specs.Family.{conditionOf}
-use Rattle.rules.specs.Events.{waitBit}
 use Rattle.rules.specs.SoundEcbs.{waitersGood, needGood, needsGood, waitedOnBy}
 use Rattle.laws.specs.Places.{place-past, place-at}
-use Rattle.events.specs.Blocks.{waitsFrom}
+use Rattle.laws.specs.Blocks.{waiterGood}
+use Rattle.events.specs.Blocks.{tallyFrom}
 use Rattle.events.specs.Counts.{waits-at}
 
--- an ECB's waiter, if any, is in an ECB wait
-unfoldable pub waiterGood : List Task → Ecb → Bool
-waiterGood ts e = not (waitBit e) || inEcbWait (conditionOf ts (e .waiter .0))
-
 pub waiters-each : (ts : List Task) (es : List Ecb) → every (waiterGood ts) es ≡ waitersGood ts es
-unfolding waitersGood waiterGood
+unfolding waitersGood
 waiters-each ts es = refl
 
 module _ (ts : List Task) (x : Ecb) where
   waiter-is : 0 < x .waiter .0 → waiterGood ts x ≡ inEcbWait (conditionOf ts (x .waiter .0))
-  unfolding waiterGood
   waiter-is h = rw (ne-eqb (x .waiter .0) 0 (λ (z : x .waiter .0 ≡ 0). omega arith))
 
   pub waiter-none : x .waiter .0 ≡ 0 → waiterGood ts x ≡ true
-  unfolding waiterGood
   waiter-none h = rw (eq-eqb (x .waiter .0) 0 h)
 
   pub waiter-past : length ts < x .waiter .0 → waiterGood ts x ≡ false
@@ -45,7 +39,7 @@ unfoldable pub needFrom : List ℕ → ℕ → Task → Bool
 needFrom t n x = needGood (x .condition) (getD t n 0)
 
 needs-counted : (k n : ℕ) (es : List Ecb) (ts : List Task) → n + length ts ≤ k
-    → everyAt (needFrom (waitsFrom k 0 es)) n ts ≡ everyAt (λ m (x : Task). needGood (x .condition) (howMany (waitedOnBy m) es)) n ts
+    → everyAt (needFrom (tallyFrom k 0 es)) n ts ≡ everyAt (λ m (x : Task). needGood (x .condition) (howMany (waitedOnBy m) es)) n ts
 unfolding needFrom
 needs-counted k n es [] h = refl
 needs-counted k n es (x ∷ ts) h =
@@ -54,6 +48,6 @@ needs-counted k n es (x ∷ ts) h =
     (ap (needGood (x .condition)) (waits-at k 0 n es (omega arith) ∙ ap (λ (m : ℕ). howMany (waitedOnBy m) es) e))
     (needs-counted k (n + 1) es ts (omega arith))
 
-pub needs-from : (es : List Ecb) (ts : List Task) (t : List ℕ) → t ≡ waitsFrom 33 0 es → length ts ≡ 32 → everyAt (needFrom t) 1 ts ≡ needsGood es ts
+pub needs-from : (es : List Ecb) (ts : List Task) (t : List ℕ) → t ≡ tallyFrom 33 0 es → length ts ≡ 32 → everyAt (needFrom t) 1 ts ≡ needsGood es ts
 unfolding needsGood
 needs-from es ts t e h = ap (λ (l : List ℕ). everyAt (needFrom l) 1 ts) e ∙ needs-counted 33 1 es ts (omega arith)

@@ -20,8 +20,8 @@ tasksGood ts = jobStepGood ts && (mothersGood ts && (prioritiesGood ts && (taskE
 abbrev pub queueGood : List Task → List Entry → Bool
 queueGood ts q = queueFits q && (entriesLive ts q && (entriesOnce q && (entryNamesGood q && waitsGood q ts)))
 
-abbrev pub ecbsGood : List Task → List Ecb → Bool
-ecbsGood ts es = waitersGood ts es && (needsGood es ts && ecbWordsGood es)
+abbrev pub eventsGood : List Task → List Ecb → Bool
+eventsGood ts es = waitersGood ts es && (needsGood es ts && ecbWordsGood es)
 
 abbrev pub areasGood : List Task → List Area → Bool
 areasGood ts l = areasFit l && (areaShapesGood l && (areaOwnersGood ts l && (areasRise l && areasApart l)))
@@ -31,9 +31,9 @@ abbrev pub sizesGood : List Task → List Ecb → Bool
 sizesGood ts es = tasksFit ts && ecbsFit es
 
 -- of a step that runs
-unfoldable pub running : ℕ → List Task → List Entry → List Ecb → List Area → Bool
-running code ts q es l = sizesGood ts es && (eqb code 0 && (tasksGood ts && (queueGood ts q && (ecbsGood ts es && areasGood ts l))))
+unfoldable pub runningRules : ℕ → List Task → List Entry → List Ecb → List Area → Bool
+runningRules code ts q es l = sizesGood ts es && (eqb code 0 && (tasksGood ts && (queueGood ts q && (eventsGood ts es && areasGood ts l))))
 
 -- of a step that is over
-unfoldable pub ended : ℕ → List Task → List Entry → List Ecb → List Area → Bool
-ended code ts q es l = sizesGood ts es && (endCodeGood code && (every zeroTask ts && (none q && (every zeroEcb es && none l))))
+unfoldable pub overRules : ℕ → List Task → List Entry → List Ecb → List Area → Bool
+overRules code ts q es l = sizesGood ts es && (endCodeGood code && (every zeroTask ts && (none q && (every zeroEcb es && none l))))

@@ -10,7 +10,7 @@ ghost use Rattle.lists.specs.Lists.{none};
 ghost use Rattle.kinds.specs.Limits.{mostEntries, mostAreas};
 ghost use Rattle.queue.specs.Queues.{live};
 ghost use Rattle.storage.specs.Stored.{live as liveAreas};
-ghost use Rattle.soundness.specs.Rules.{tasksGood, queueGood, ecbsGood, areasGood, sizesGood, running, ended};
+ghost use Rattle.soundness.specs.Rules.{tasksGood, queueGood, eventsGood, areasGood, sizesGood, runningRules, overRules};
 
 // The rules on the task table alone.
 pub fn tasks_good(f: Family) -> bool
@@ -40,7 +40,7 @@ pub fn queue_good(q: Queue, f: Family) -> bool
 
 // The rules on ECBs and ECB waits.
 pub fn ecbs_good(e: Events, f: Family) -> bool
-    ensures { λ r. ⌜ r ≡ ecbsGood (f .places) (e .ecbs) ⌝ }
+    ensures { λ r. ⌜ r ≡ eventsGood (f .places) (e .ecbs) ⌝ }
 {
     let a = signals::waiters_good(e, f);
     let b = signals::needs_good(e, f);
@@ -87,7 +87,7 @@ fn no_area(s: Storage) -> bool
 // The rules on a step that runs.
 pub fn running_good(code: u16, f: Family, q: Queue, e: Events, s: Storage) -> bool
     requires { ⌜ (q .count ≤ mostEntries) × (s .count ≤ mostAreas) ⌝ }
-    ensures { λ r. ⌜ r ≡ running code (f .places) (live q) (e .ecbs) (liveAreas s) ⌝ }
+    ensures { λ r. ⌜ r ≡ runningRules code (f .places) (live q) (e .ecbs) (liveAreas s) ⌝ }
 {
     let a = sizes_good(f, e);
     let b = tasks_good(f);
@@ -100,7 +100,7 @@ pub fn running_good(code: u16, f: Family, q: Queue, e: Events, s: Storage) -> bo
 // "A step that is over has empty tables."
 pub fn over_good(code: u16, f: Family, q: Queue, e: Events, s: Storage) -> bool
     requires { ⌜ (q .count ≤ mostEntries) × (s .count ≤ mostAreas) ⌝ }
-    ensures { λ r. ⌜ r ≡ ended code (f .places) (live q) (e .ecbs) (liveAreas s) ⌝ }
+    ensures { λ r. ⌜ r ≡ overRules code (f .places) (live q) (e .ecbs) (liveAreas s) ⌝ }
 {
     let a = sizes_good(f, e);
     let b = Task::code_good(code);

@@ -7,19 +7,19 @@ use lib.ListN.{length, take}
 use lib.Seq.{take-all}
 use Rattle.lists.specs.Arrays.{mapped-length}
 use Rattle.kinds.specs.Ecbs.{noEcb}
-use Rattle.events.specs.Blocks.{waitsFrom}
+use Rattle.events.specs.Blocks.{tallyFrom}
 use Rattle.events.specs.Counts.{counted-few, counted, not-counted}
 use Rattle.events.proofs.waited_on.Statement.{statement}
 use Rattle.events.proofs.waited_on.Tie as tie
 
 abbrev Inv-loop : tie.InvT-loop
-Inv-loop e t₀ i₀ t i = (i ≤ 64) × (length (e .ecbs) ≡ 64) × (t .ecbs ≡ waitsFrom 33 0 (take i (e .ecbs)))
+Inv-loop e t₀ i₀ t i = (i ≤ 64) × (length (e .ecbs) ≡ 64) × (t .ecbs ≡ tallyFrom 33 0 (take i (e .ecbs)))
 
 abbrev μ-loop : tie.MeasureT-loop
 μ-loop e t₀ i₀ t i = 64 - i
 
 loop-holds : tie.Need-loop-holds Inv-loop μ-loop
-unfolding waitsFrom
+unfolding tallyFrom
 loop-holds c = (omega arith, search (needs, mapped-length), refl)
 
 mul-x : tie.Need-mul-x Inv-loop μ-loop
@@ -56,7 +56,7 @@ loop-again-2 : tie.Need-loop-again-2 Inv-loop μ-loop
 loop-again-2 c = (omega arith, omega arith, not-counted 33 ((c .before .before .before .before .before .args) .t1 .ecbs) ((c .before .before .before .before .loop) .i) noEcb ((c .before .before .before .before .loop) .t .ecbs) (omega arith) ((c .before .before .before .before .loop) .inv .2) ((c .if1) .left))
 
 returns : tie.Need-returns Inv-loop μ-loop
-returns c = ap (λ (l : List ℕ). record { ecbs = l }) ((c .before .loop) .inv .2 ∙ ap (waitsFrom 33 0) (take-all ((c .before .loop) .i) ((c .before .before .args) .t1 .ecbs) (omega arith)))
+returns c = ap (λ (l : List ℕ). record { ecbs = l }) ((c .before .loop) .inv .2 ∙ ap (tallyFrom 33 0) (take-all ((c .before .loop) .i) ((c .before .before .args) .t1 .ecbs) (omega arith)))
 
 pub waited-on-spec : {M : Type 1} → statement M
 waited-on-spec =

@@ -9,7 +9,8 @@ use Rattle.lists.specs.Lists.{every}
 use Rattle.lists.specs.Every.{rest-fails, rest-goes, rest-end}
 use Rattle.lists.specs.Arrays.{mapped-length}
 use Rattle.kinds.specs.Ecbs.{noEcb}
-use Rattle.signals.specs.Sound.{waiterGood, waiters-each, waiter-none, waiter-past, waiter-at}
+use Rattle.signals.specs.Sound.{waiters-each, waiter-none, waiter-past, waiter-at}
+use Rattle.laws.specs.Blocks.{waiterGood}
 use Rattle.signals.proofs.waiters_good.Statement.{statement}
 use Rattle.signals.proofs.waiters_good.Tie as tie
 

@@ -1,4 +1,4 @@
-use Rattle.soundness.specs.Rules.{ended}
+use Rattle.soundness.specs.Rules.{overRules}
 use borrow.Author.Needs.{needs}
 use Rattle.soundness.proofs.over_good.Statement.{statement}
 use Rattle.soundness.proofs.over_good.Tie as tie
@@ -22,7 +22,7 @@ no-area-requires : tie.Need-no-area-requires
 no-area-requires c κs = search needs
 
 returns : tie.Need-returns
-unfolding ended
+unfolding overRules
 returns c = rw ((c .before .before .before .before .before .sizes-good) .ensures, (c .before .before .before .before .code-good) .ensures, (c .before .before .before .all-zero) .ensures, (c .before .before .no-entry) .ensures, (c .before .all-zero2) .ensures, (c .no-area) .ensures)
 
 pub over-good-spec : {M : Type 1} → statement M

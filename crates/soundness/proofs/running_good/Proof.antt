@@ -1,4 +1,4 @@
-use Rattle.soundness.specs.Rules.{running}
+use Rattle.soundness.specs.Rules.{runningRules}
 use borrow.Author.Needs.{needs}
 use Rattle.soundness.proofs.running_good.Statement.{statement}
 use Rattle.soundness.proofs.running_good.Tie as tie
@@ -19,7 +19,7 @@ areas-good-requires : tie.Need-areas-good-requires
 areas-good-requires c κs = search needs
 
 returns : tie.Need-returns
-unfolding running
+unfolding runningRules
 returns c = rw ((c .before .before .before .before .sizes-good) .ensures, (c .before .before .before .tasks-good) .ensures, (c .before .before .queue-good) .ensures, (c .before .ecbs-good) .ensures, (c .areas-good) .ensures)
 
 pub running-good-spec : {M : Type 1} → statement M

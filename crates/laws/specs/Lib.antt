@@ -1,5 +1,7 @@
 pub mod Places
+pub mod Wiping
 pub mod Control
+pub mod Waking
 pub mod Running
 pub mod Conditions
 pub mod Blocks

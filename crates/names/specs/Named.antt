@@ -1,9 +1,11 @@
--- The name that a name's struct shows. Assumes nothing.
+-- The name that a name's struct shows, and the names beside a request. Assumes nothing.
 use Prim.Native.Nat.{ℕ}
-use mathlib.Core.List.{List, _++_}
+use mathlib.Core.List.{List, _++_, map}
 use lib.ListN.{take, replicate}
 use Rattle.kinds.specs.declared.names.Name.{Name}
-use Rattle.rules.specs.Names.{Resource}
+use Rattle.kinds.specs.declared.names.Wanted.{Wanted}
+use Rattle.kinds.specs.declared.names.NameList.{NameList}
+use Rattle.rules.specs.Names.{Resource, Ask, Names}
 
 -- the first n bytes; those that are not there count as zero, so that a stated length is never lost
 unfoldable pub shown : ℕ → List ℕ → List ℕ
@@ -11,3 +13,10 @@ shown n bytes = take n (bytes ++ replicate n 0)
 
 abbrev pub resourceOf : Name → Resource
 resourceOf n = record { major = n .major; minor = shown (n .length) (n .minor) }
+
+abbrev pub askOf : Wanted → Ask
+askOf w = record { exclusive = w .exclusive; name = resourceOf (w .name) }
+
+-- the names within the count
+abbrev pub namesIn : NameList → Names
+namesIn l = record { count = l .count; asks = take (l .count) (map askOf (l .names)) }

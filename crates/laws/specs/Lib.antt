@@ -1,9 +1,15 @@
 pub mod Places
 pub mod Wiping
 pub mod Control
+pub mod Lacking
 pub mod Waking
 pub mod Running
+pub mod Kindred
+pub mod Ended
 pub mod Conditions
 pub mod Blocks
+pub mod Settling
+pub mod Leaving
+pub mod Endings
 pub mod Posts
 pub mod Kept

@@ -1,10 +1,13 @@
 -- Places of the task table by number. Assumes nothing.
-use mathlib.Core.Path.{_≡_, refl, ap, _∙_}
+use mathlib.Core.Path.{_≡_, refl, sym, ap, subst, _∙_}
+use mathlib.Core.Bool.{Bool, true}
 use mathlib.Core.List.{List}
-use Prim.Native.Nat.{ℕ, zero, suc, _+_, _-_, _<_}
+use Prim.Native.Nat.{ℕ, zero, suc, _+_, _-_, _≤_, _<_}
 use native.Mathlib.Nat.{le-of-suc-le-suc}
 use native.Mathlib.Omega.{arith}
 use lib.ListN.{length, getD, List·getD-eq-default}
+use Rattle.lists.specs.Lists.{everyAt}
+use Rattle.lists.specs.Numbered.{everyAt-from, everyAt-at}
 use Rattle.kinds.specs.Tasks.{noTask}
 use Rattle.kinds.specs.declared.tasks.Task.{Task}
 use Rattle.rules.specs.Family.{place}
@@ -25,3 +28,15 @@ place-at ts (suc i) h = let e : i ≡ suc i - 1 = omega arith in ap (λ (k : ℕ
 
 pub place-next : (ts : List Task) (i : ℕ) → place ts (1 + i) ≡ getD ts i noTask
 place-next ts i = let e : (1 + i) - 1 ≡ i = omega arith in place-at ts (1 + i) (omega arith) ∙ ap (λ (k : ℕ). getD ts k noTask) e
+
+-- a rule on every place, number by number
+pub by-number : (p : ℕ → Task → Bool) (ts : List Task) → ((n : ℕ) → 0 < n → n ≤ length ts → p n (place ts n) ≡ true) → everyAt p 1 ts ≡ true
+by-number p ts h =
+    everyAt-from p 1 ts noTask
+    (λ i l. subst (λ (x : Task). p (1 + i) x ≡ true) (place-next ts i) (h (1 + i) (omega arith) (omega arith)))
+
+pub at-number : (p : ℕ → Task → Bool) (ts : List Task) → everyAt p 1 ts ≡ true → (n : ℕ) → 0 < n → n ≤ length ts → p n (place ts n) ≡ true
+at-number p ts e n low high =
+    let k : 1 + (n - 1) ≡ n = omega arith in
+    subst (λ (m : ℕ). p m (place ts m) ≡ true) k
+    (subst (λ (x : Task). p (1 + (n - 1)) x ≡ true) (sym (place-next ts (n - 1))) (everyAt-at p 1 ts noTask e (n - 1) (omega arith)))

@@ -1,14 +1,15 @@
 -- What is kept of a list: over ++ and map, along a loop, and what holds of it. Assumes nothing.
 use mathlib.Core.Path.{_≡_, refl, ap, _∙_}
-use mathlib.Core.Bool.{Bool, true, false, cond}
+use mathlib.Core.Bool.{Bool, true, false, not, cond}
 use mathlib.Core.List.{List, [], _∷_, _++_, map}
 use Prim.Native.Nat.{ℕ, zero, suc, _+_, _≤_, _<_}
 use native.Mathlib.Numerals.{add-one}
 use native.Mathlib.Omega.{arith}
 use lib.ListN.{length, getD, take}
 use lib.Seq.{take-suc}
-use Rattle.lists.specs.Lists.{every, keep}
-use Rattle.lists.specs.Bools.{both, join}
+use borrow.Author.Tests.{not-true}
+use Rattle.lists.specs.Lists.{every, some, keep, pairwise, distinct}
+use Rattle.lists.specs.Bools.{both, join, or-left, or-right}
 
 module _ {A : Type 0} where
   keep-cons : (b : Bool) (x : A) (p q r : List A) → r ≡ p ++ q → cond b (x ∷ r) r ≡ cond b (x ∷ p) p ++ q
@@ -52,6 +53,35 @@ module _ {A : Type 0} where
 
   pub every-keep : (g f : A → Bool) (l : List A) → every g l ≡ true → every g (keep f l) ≡ true
   every-keep g f l h = every-kept f g g (λ x u v. v) l h
+
+  -- a test of all pairs holds of the pairs that are kept
+  pub pairwise-keep : (p : A → A → Bool) (f : A → Bool) (l : List A) → pairwise p l ≡ true → pairwise p (keep f l) ≡ true
+  pairwise-keep p f [] e = refl
+  pairwise-keep p f (x ∷ l) e =
+      let b = both (every (p x) l) (pairwise p l) e in one (f x) (every-keep (p x) f l (b .0)) (pairwise-keep p f l (b .1))
+    where
+      one : (b : Bool) → every (p x) (keep f l) ≡ true → pairwise p (keep f l) ≡ true → pairwise p (cond b (x ∷ keep f l) (keep f l)) ≡ true
+      one true u v = join (every (p x) (keep f l)) (pairwise p (keep f l)) u v
+      one false u v = v
+
+  -- nothing else comes in
+  pub some-keep : (p f : A → Bool) (l : List A) → some p l ≡ false → some p (keep f l) ≡ false
+  some-keep p f [] e = refl
+  some-keep p f (x ∷ l) e = one (f x) (or-left (p x) (some p l) e) (some-keep p f l (or-right (p x) (some p l) e))
+    where
+      one : (b : Bool) → p x ≡ false → some p (keep f l) ≡ false → some p (cond b (x ∷ keep f l) (keep f l)) ≡ false
+      one true u v = rw (u, v)
+      one false u v = v
+
+  pub distinct-keep : (same : A → A → Bool) (f : A → Bool) (l : List A) → distinct same l ≡ true → distinct same (keep f l) ≡ true
+  distinct-keep same f [] e = refl
+  distinct-keep same f (x ∷ l) e =
+      let b = both (not (some (same x) l)) (distinct same l) e in
+      one (f x) (some-keep (same x) f l (not-true (some (same x) l) (b .0))) (distinct-keep same f l (b .1))
+    where
+      one : (b : Bool) → some (same x) (keep f l) ≡ false → distinct same (keep f l) ≡ true → distinct same (cond b (x ∷ keep f l) (keep f l)) ≡ true
+      one true u v = join (not (some (same x) (keep f l))) (distinct same (keep f l)) (ap not u) v
+      one false u v = v
 
 module _ {A B : Type 0} (g : A → B) where
   pub keep-map : (f : B → Bool) (l : List A) → keep f (map g l) ≡ map g (keep (λ (x : A). f (g x)) l)

@@ -8,7 +8,7 @@ use native.Mathlib.Nat.{le-of-suc-le-suc}
 use native.Mathlib.Omega.{arith}
 use lib.ListN.{length, getD, drop, set, drop-of-length-le}
 use lib.Seq.{drop-cons}
-use Rattle.lists.specs.Lists.{everyAt, mapAt, firstAt, numbers}
+use Rattle.lists.specs.Lists.{every, everyAt, mapAt, firstAt, numbers}
 use Rattle.lists.specs.Bools.{both, join}
 
 module _ {A : Type 0} where
@@ -77,6 +77,22 @@ module _ {A : Type 0} where
   everyAt-mapAt p q f h n (x ∷ l) e =
       let b = both (p n x) (everyAt p (n + 1) l) e in
       join (q n (f n x)) (everyAt q (n + 1) (mapAt f (n + 1) l)) (h n x (b .0)) (everyAt-mapAt p q f h (n + 1) l (b .1))
+
+  -- two changes that agree wherever a test of every element holds
+  pub mapAt-where : (p : ℕ → A → Bool) (f g : ℕ → A → A) → ((k : ℕ) (x : A) → p k x ≡ true → f k x ≡ g k x)
+      → (n : ℕ) (l : List A) → everyAt p n l ≡ true → mapAt f n l ≡ mapAt g n l
+  mapAt-where p f g h n [] e = refl
+  mapAt-where p f g h n (x ∷ l) e =
+      let b = both (p n x) (everyAt p (n + 1) l) e in
+      ap₂ (λ (y : A) (r : List A). y ∷ r) (h n x (b .0)) (mapAt-where p f g h (n + 1) l (b .1))
+
+  -- a test that asks for no number
+  pub every-mapAt : (p q : A → Bool) (f : ℕ → A → A) → ((k : ℕ) (x : A) → p x ≡ true → q (f k x) ≡ true)
+      → (n : ℕ) (l : List A) → every p l ≡ true → every q (mapAt f n l) ≡ true
+  every-mapAt p q f h n [] e = refl
+  every-mapAt p q f h n (x ∷ l) e =
+      let b = both (p x) (every p l) e in
+      join (q (f n x)) (every q (mapAt f (n + 1) l)) (h n x (b .0)) (every-mapAt p q f h (n + 1) l (b .1))
 
   -- a loop that changes each element in turn: the first i are changed
   abbrev pub upTo : (ℕ → A → A) → ℕ → ℕ → List A → List A

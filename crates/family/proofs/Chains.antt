@@ -8,9 +8,7 @@ use lib.Dec.{eqb}
 use Rattle.kinds.specs.Tasks.{isFree}
 use Rattle.kinds.specs.declared.tasks.Task.{Task}
 use Rattle.rules.specs.Family.{place, used, mother, chain}
-
-abbrev pub only : ℕ → ℕ → Bool
-only c n = eqb n c
+use Rattle.laws.specs.Chains.{only}
 
 module _ (ts : List Task) (c n : ℕ) (x : Task) (e : x ≡ place ts n) where
   in-use : isFree (x .condition) ≡ false → used ts n ≡ true

@@ -1,12 +1,13 @@
 -- FRESH, DISPATCH, CLEAR and POST keep a sound step sound. Assumes nothing.
 use mathlib.Core.Path.{_≡_, refl, sym, _∙_}
-use mathlib.Core.Bool.{Bool, true, false, true≢false}
+use mathlib.Core.Bool.{Bool, true, false}
 use mathlib.Core.List.{List}
 use Prim.Native.Nat.{ℕ, _<_}
 use native.Mathlib.Omega.{arith}
 use lib.Dec.{eqb, leb}
 use lib.ListN.{length, length-set, set}
 use borrow.Author.Tests.{eqb-true, leb-true, not-false}
+use Rattle.lists.specs.Bools.{never}
 use Rattle.lists.specs.Pick.{pick}
 use Rattle.kinds.specs.Ranges.{ecbGood, postCodeGood, priorityGood, endCodeGood}
 use Rattle.kinds.specs.Tasks.{isLive, waits}
@@ -42,9 +43,6 @@ abbrev pub Sound : Step → Type 0
 Sound s = soundStep s ≡ true
 
 -- GATES AND VERDICTS
-
-never : {A : Type 0} (b : Bool) → b ≡ true → b ≡ false → A
-never b p q = absurd (true≢false (sym p ∙ q))
 
 pub open-running : (s : Step) (c : TaskNumber) → gateOf s c ≡ Open → s .over ≡ false
 unfolding gateOf admitted pick

@@ -1,5 +1,6 @@
 pub mod Places
 pub mod Wiping
+pub mod Chains
 pub mod Control
 pub mod Lacking
 pub mod Waking

@@ -3,7 +3,8 @@ use native.Mathlib.Omega.{arith}
 use borrow.Author.Needs.{needs}
 use borrow.Author.Tests.{eq-eqb, ne-eqb}
 use Rattle.rules.specs.Family.{chain, below}
-use Rattle.family.proofs.Chains.{only, chain-free, chain-found, chain-next, chain-done}
+use Rattle.laws.specs.Chains.{only}
+use Rattle.family.proofs.Chains.{chain-free, chain-found, chain-next, chain-done}
 use Rattle.family.proofs.is_below.Statement.{statement}
 use Rattle.family.proofs.is_below.Tie as tie
 

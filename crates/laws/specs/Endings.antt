@@ -7,7 +7,7 @@ use native.Mathlib.Omega.{arith}
 use lib.Dec.{eqb, leb}
 use lib.ListN.{length}
 use Rattle.lists.specs.Lists.{keep, everyAt, alike, howMany}
-use Rattle.lists.specs.Bools.{alike-eq, not-so}
+use Rattle.lists.specs.Bools.{alike-eq}
 use Rattle.kinds.specs.Ranges.{priorityGood}
 use Rattle.kinds.specs.Tasks.{noTask, isFree, isLive, isReady, inResourceWait}
 use Rattle.kinds.specs.declared.tasks.Task.{Task}
@@ -27,7 +27,7 @@ use Rattle.laws.specs.Lacking.{lacks-keep}
 use Rattle.laws.specs.Waking.{noneBegins, wakeBy, wake-waits}
 use Rattle.laws.specs.Running.{Running}
 use Rattle.laws.specs.Settling.{canWait, Unsettled, settled-running}
-use Rattle.laws.specs.Ended.{never, stays, live-stays, length-ended, ended-fit, each-place}
+use Rattle.laws.specs.Ended.{stays, live-stays, length-ended, ended-fit, each-place}
 use Rattle.laws.specs.Leaving.{entries-left, fits-left, once-left, names-left, dead-lacks, blocks-left, words-left, many-left, waiters-left, areas-left, shapes-left, rise-left, apart-left, owners-left}
 
 -- a place that may stand where a task has ended: of no live task, and breaking no rule on a place by itself

@@ -10,7 +10,7 @@ use borrow.Author.Tests.{eqb-true, eqb-false, ne-eqb, leb-true, le-leb}
 use Rattle.lists.specs.Lists.{keep, every, pairwise, distinct, alike, howMany}
 use Rattle.lists.specs.Keeping.{every-kept, every-keep, length-keep, pairwise-keep, distinct-keep}
 use Rattle.lists.specs.Setting.{every-map, howMany-map}
-use Rattle.lists.specs.Bools.{both, join}
+use Rattle.lists.specs.Bools.{both, never}
 use Rattle.lists.specs.Pick.{pick}
 use Rattle.kinds.specs.Limits.{mostEntries, mostAreas}
 use Rattle.kinds.specs.Tasks.{isLive, isReady, inResourceWait, inEcbWait}
@@ -30,7 +30,6 @@ use Rattle.rules.specs.SoundAreas.{areasFit, areaShapeGood, areaShapesGood, are
 use Rattle.rules.specs.Storage.{startOf, apart}
 use Rattle.laws.specs.Lacking.{lacks-none}
 use Rattle.laws.specs.Blocks.{waiterGood}
-use Rattle.laws.specs.Ended.{never}
 
 -- what is kept passes the test by which it is kept
 kept-by : (f r : Entry → Bool) → ((e : Entry) → f e ≡ true → r e ≡ true) → (l : List Entry) → every r (keep f l) ≡ true

@@ -7,6 +7,7 @@ pub mod Waking
 pub mod Running
 pub mod Kindred
 pub mod Ended
+pub mod Mothers
 pub mod Conditions
 pub mod Blocks
 pub mod Settling

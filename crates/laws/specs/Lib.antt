@@ -14,4 +14,7 @@ pub mod Settling
 pub mod Leaving
 pub mod Endings
 pub mod Posts
+pub mod Failing
+pub mod Admitted
 pub mod Kept
+pub mod KeptTasks

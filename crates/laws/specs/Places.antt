@@ -6,7 +6,8 @@ use Prim.Native.Nat.{ℕ, zero, suc, _+_, _-_, _≤_, _<_}
 use native.Mathlib.Nat.{le-of-suc-le-suc}
 use native.Mathlib.Omega.{arith}
 use lib.ListN.{length, getD, List·getD-eq-default}
-use Rattle.lists.specs.Lists.{everyAt}
+use Rattle.lists.specs.Lists.{every, everyAt}
+use Rattle.lists.specs.Setting.{every-at}
 use Rattle.lists.specs.Numbered.{everyAt-from, everyAt-at}
 use Rattle.kinds.specs.Tasks.{noTask}
 use Rattle.kinds.specs.declared.tasks.Task.{Task}
@@ -40,3 +41,6 @@ at-number p ts e n low high =
     let k : 1 + (n - 1) ≡ n = omega arith in
     subst (λ (m : ℕ). p m (place ts m) ≡ true) k
     (subst (λ (x : Task). p (1 + (n - 1)) x ≡ true) (sym (place-next ts (n - 1))) (everyAt-at p 1 ts noTask e (n - 1) (omega arith)))
+
+pub every-number : (p : Task → Bool) (ts : List Task) → every p ts ≡ true → (n : ℕ) → 0 < n → n ≤ length ts → p (place ts n) ≡ true
+every-number p ts e n low high = subst (λ (x : Task). p x ≡ true) (sym (place-at ts n low)) (every-at p ts (n - 1) noTask e (omega arith))

@@ -1,3 +1,5 @@
+pub mod Attaching
 pub mod Chains
 pub mod Mothers
 pub mod Reaching
+pub mod Sums

@@ -1,4 +1,5 @@
 // The task table: task n stands at place n - 1.
+pub mod attach;
 pub mod choice;
 pub mod sound;
 

@@ -19,7 +19,7 @@ fn has_ecb(e: MaybeEcb) -> bool
     }
 }
 
-fn ecb_good(e: MaybeEcb) -> bool
+pub fn ecb_good(e: MaybeEcb) -> bool
     ensures { λ r. ⌜ r ≡ maybeGood e ⌝ }
 {
     match e {

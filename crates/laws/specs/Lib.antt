@@ -1,4 +1,5 @@
 pub mod Places
+pub mod Priorities
 pub mod Wiping
 pub mod Chains
 pub mod Control

@@ -7,7 +7,6 @@ use kinds::TaskNumber;
 ghost use mathlib.Core.Path.{_≡_};
 ghost use Prim.Native.Nat.{_≤_, _<_};
 ghost use Rattle.kinds.specs.Limits.{highestTask, highestEcb};
-ghost use Rattle.kinds.specs.Tasks.{inEcbWait};
 ghost use Rattle.rules.specs.Events.{onePostFewer, bitsLeft, comesTo, woken as wokenOf, signalled};
 ghost use Rattle.rules.specs.SoundEcbs.{waitersGood, needGood, needsGood};
 ghost use Rattle.events.specs.Blocks.{eventsOf};
@@ -17,18 +16,6 @@ ghost use Rattle.signals.specs.Posts.{signalsOf};
 pub struct Signals {
     pub events: Events,
     pub family: Family,
-}
-
-pub fn in_ecb_wait(k: Condition) -> bool
-    ensures { λ r. ⌜ r ≡ inEcbWait k ⌝ }
-{
-    match k {
-        Condition::Free => false,
-        Condition::Ready => false,
-        Condition::ResourceWait => false,
-        Condition::EcbWait(_) => true,
-        Condition::Ended => false,
-    }
 }
 
 // Every waiter is in an ECB wait. The places are read here, so that no table is copied for each ECB.
@@ -47,7 +34,7 @@ pub fn waiters_good(e: Events, f: Family) -> bool
             let j = (k - 1) as usize;
             let t = f.places[j];
             let now = t.condition;
-            if !in_ecb_wait(now) {
+            if !now.in_ecb_wait() {
                 return false;
             }
         }

@@ -19,3 +19,4 @@ pub mod Failing
 pub mod Admitted
 pub mod Kept
 pub mod KeptTasks
+pub mod Attaching

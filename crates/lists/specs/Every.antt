@@ -7,6 +7,7 @@ use native.Mathlib.Numerals.{add-one}
 use lib.ListN.{length, getD, drop, length-map, drop-of-length-le, List·getD-map}
 use lib.Seq.{slice, slice-cons, slice-empty, drop-cons}
 use Rattle.lists.specs.Lists.{every, some}
+use Rattle.lists.specs.Bools.{both, join}
 
 module _ {A : Type 0} where
   pub every-append : (f : A → Bool) (p q : List A) → every f (p ++ q) ≡ (every f p && every f q)
@@ -16,6 +17,11 @@ module _ {A : Type 0} where
   pub every-same : (f g : A → Bool) → ((x : A) → f x ≡ g x) → (l : List A) → every f l ≡ every g l
   every-same f g h [] = refl
   every-same f g h (x ∷ l) = rw (h x, every-same f g h l)
+
+  -- a test that gives another
+  pub every-gives : (f g : A → Bool) → ((x : A) → f x ≡ true → g x ≡ true) → (l : List A) → every f l ≡ true → every g l ≡ true
+  every-gives f g h [] e = refl
+  every-gives f g h (x ∷ l) e = let b = both (f x) (every f l) e in join (g x) (every g l) (h x (b .0)) (every-gives f g h l (b .1))
 
   pub slice-next : (i n : ℕ) (l : List A) (d : A) → i < n → n ≤ length l → slice i n l ≡ getD l i d ∷ slice (i + 1) n l
   slice-next i n l d h k = rw (add-one) (slice-cons i n l d h k)

@@ -1,6 +1,6 @@
 -- Numbered elements: tests, changes and searches along a loop over a whole array, and place by place. Assumes nothing.
 use mathlib.Core.Path.{_≡_, refl, sym, ap, ap₂, _∙_}
-use mathlib.Core.Bool.{Bool, true, false}
+use mathlib.Core.Bool.{Bool, true, false, cond}
 use mathlib.Core.List.{List, [], _∷_, map}
 use Prim.Native.Nat.{ℕ, zero, suc, _+_, _≤_, _<_}
 use native.Mathlib.Numerals.{add-one}
@@ -36,6 +36,23 @@ module _ {A : Type 0} where
   pub firstAt-same : (p q : A → Bool) → ((x : A) → p x ≡ q x) → (n : ℕ) (l : List A) → firstAt p n l ≡ firstAt q n l
   firstAt-same p q h n [] = refl
   firstAt-same p q h n (x ∷ l) = rw (h x, firstAt-same p q h (n + 1) l)
+
+  -- what the search finds: the number of a place whose element passes
+  pub firstAt-found : (p : A → Bool) (n : ℕ) (l : List A) (d : A) → (firstAt p n l ≡ 0 → ⊥)
+      → (i : ℕ) × ((firstAt p n l ≡ n + i) × ((i < length l) × (p (getD l i d) ≡ true)))
+  firstAt-found p n [] d h = absurd (h refl)
+  firstAt-found p n (x ∷ l) d h = one (p x) refl (firstAt-found p (n + 1) l d) h
+    where
+      one : (b : Bool) → p x ≡ b
+          → ((firstAt p (n + 1) l ≡ 0 → ⊥) → (i : ℕ) × ((firstAt p (n + 1) l ≡ (n + 1) + i) × ((i < length l) × (p (getD l i d) ≡ true))))
+          → (cond b n (firstAt p (n + 1) l) ≡ 0 → ⊥)
+          → (i : ℕ) × ((cond b n (firstAt p (n + 1) l) ≡ n + i) × ((i < suc (length l)) × (p (getD (x ∷ l) i d) ≡ true)))
+      one true e ih k = (0, (omega arith, (omega arith, e)))
+      one false e ih k =
+          let f = ih k in
+          let m : (n + 1) + f .0 ≡ n + suc (f .0) = omega arith in
+          let r : suc (f .0) < suc (length l) = omega (arith, f .1 .1 .0) in
+          (suc (f .0), (f .1 .0 ∙ m, (r, f .1 .1 .1)))
 
   -- place by place
   pub everyAt-from : (p : ℕ → A → Bool) (n : ℕ) (l : List A) (d : A) → ((i : ℕ) → i < length l → p (n + i) (getD l i d) ≡ true) → everyAt p n l ≡ true

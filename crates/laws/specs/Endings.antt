@@ -7,7 +7,6 @@ use native.Mathlib.Omega.{arith}
 use lib.Dec.{eqb, leb}
 use lib.ListN.{length}
 use Rattle.lists.specs.Lists.{keep, everyAt, alike, howMany}
-use Rattle.lists.specs.Bools.{alike-eq}
 use Rattle.kinds.specs.Ranges.{priorityGood}
 use Rattle.kinds.specs.Tasks.{noTask, isFree, isLive, isReady, inResourceWait}
 use Rattle.kinds.specs.declared.tasks.Task.{Task}
@@ -23,7 +22,7 @@ use Rattle.rules.specs.SoundTasks.{jobStepGood, mothersGood, prioritiesGood, ta
 use Rattle.rules.specs.SoundQueue.{waitGood, waitsGood}
 use Rattle.rules.specs.SoundEcbs.{needGood, waitedOnBy, needsGood}
 use Rattle.laws.specs.Places.{by-number, at-number}
-use Rattle.laws.specs.Lacking.{lacks-keep}
+use Rattle.laws.specs.Lacking.{lacks-keep, may-wait, may-begin}
 use Rattle.laws.specs.Waking.{noneBegins, wakeBy, wake-waits}
 use Rattle.laws.specs.Running.{Running}
 use Rattle.laws.specs.Settling.{canWait, Unsettled, settled-running}
@@ -53,23 +52,7 @@ dead-ready ResourceWait b d = refl
 dead-ready (EcbWait n) b d = refl
 dead-ready Ended b d = refl
 
--- a task as the rule on resource waits has it, when it lacks control (b) no more than before (a)
-may-wait : (k : Condition) (a b : Bool) → alike (inResourceWait k) a ≡ true → (a ≡ false → b ≡ false) → (not b || (isReady k || inResourceWait k)) ≡ true
-may-wait Free a b h f = rw (f (sym (alike-eq false a h)))
-may-wait Ready a b h f = rw (f (sym (alike-eq false a h)))
-may-wait ResourceWait a true h f = refl
-may-wait ResourceWait a false h f = refl
-may-wait (EcbWait n) a b h f = rw (f (sym (alike-eq false a h)))
-may-wait Ended a b h f = rw (f (sym (alike-eq false a h)))
-
-may-begin : (k : Condition) (a b : Bool) → alike (inResourceWait k) a ≡ true → (a ≡ false → b ≡ false) → not (isReady k && b) ≡ true
-may-begin Free a b h f = refl
-may-begin Ready a b h f = rw (f (sym (alike-eq false a h)))
-may-begin ResourceWait a b h f = refl
-may-begin (EcbWait n) a b h f = refl
-may-begin Ended a b h f = refl
-
-module _ (s : Step) (h : Running s) (c : ℕ) (last : Task) (r : Rest last) where
+module _ (s : Step) (h : Running s) (c : ℕ) (last : Task) (dead : isLive (last .condition) ≡ false) where
   abbrev us : List Task
   us = endTasks (s .tasks) c last
 
@@ -77,7 +60,7 @@ module _ (s : Step) (h : Running s) (c : ℕ) (last : Task) (r : Rest last) wher
   queueLeft = keep (entryStays us) (s .queue)
 
   same : (n : ℕ) → live us n ≡ true → place us n ≡ place (s .tasks) n
-  same n l = stays (s .tasks) c last n (live-stays (s .tasks) c last (r .dead) n l)
+  same n l = stays (s .tasks) c last n (live-stays (s .tasks) c last dead n l)
 
   -- AN ENDING TAKES CONTROL FROM NOBODY WHO STAYS
   pub nobody-loses : (n : ℕ) → lacks n (s .queue) ≡ false → lacks n queueLeft ≡ false
@@ -121,7 +104,7 @@ module _ (s : Step) (h : Running s) (c : ℕ) (last : Task) (r : Rest last) wher
       (λ n x low l g. ap (needGood (x .condition)) (many-left us (s .ecbs) n l (λ z. omega arith)) ∙ g)
 
   -- the family's own rules are shown from the chains of mothers
-  module _ (job : jobStepGood us ≡ true) (mothers : mothersGood us ≡ true) where
+  module _ (r : Rest last) (job : jobStepGood us ≡ true) (mothers : mothersGood us ≡ true) where
     left-priorities : prioritiesGood us ≡ true
     unfolding prioritiesGood
     left-priorities = each-place (s .tasks) c last (λ (x : Task). priorityGood (x .limit) && leb (x .dispatching) (x .limit)) refl (r .priorities) (h .priorities)

@@ -5,9 +5,12 @@ use mathlib.Core.List.{List, [], _∷_, _++_, append-nil}
 use Prim.Native.Nat.{ℕ}
 use lib.Dec.{eqb}
 use borrow.Author.Tests.{not-true, not-false}
-use Rattle.lists.specs.Lists.{keep, every}
+use Rattle.lists.specs.Lists.{keep, every, alike}
 use Rattle.lists.specs.Keeping.{keep-append, every-keep}
-use Rattle.lists.specs.Bools.{both, or-left, or-right}
+use Rattle.lists.specs.Bools.{both, or-left, or-right, alike-eq}
+use Rattle.kinds.specs.Tasks.{isReady, inResourceWait}
+use Rattle.kinds.specs.declared.tasks.Condition.{Condition}
+use Rattle.kinds.specs.declared.tasks.Condition.the-variants.{Free, Ready, ResourceWait, EcbWait, Ended}
 use Rattle.rules.specs.Control.{Entry, ofTask, control, lacksFrom, lacks}
 use Rattle.laws.specs.Control.{free, control-each}
 
@@ -50,3 +53,19 @@ none-from t before (x ∷ l) e =
 
 pub lacks-none : (t : ℕ) (q : List Entry) → every (λ (e : Entry). not (ofTask t e)) q ≡ true → lacks t q ≡ false
 lacks-none t q e = none-from t [] q e
+
+-- a task as the rule on resource waits has it, when it lacks control (b) no more than before (a)
+pub may-wait : (k : Condition) (a b : Bool) → alike (inResourceWait k) a ≡ true → (a ≡ false → b ≡ false) → (not b || (isReady k || inResourceWait k)) ≡ true
+may-wait Free a b h f = rw (f (sym (alike-eq false a h)))
+may-wait Ready a b h f = rw (f (sym (alike-eq false a h)))
+may-wait ResourceWait a true h f = refl
+may-wait ResourceWait a false h f = refl
+may-wait (EcbWait n) a b h f = rw (f (sym (alike-eq false a h)))
+may-wait Ended a b h f = rw (f (sym (alike-eq false a h)))
+
+pub may-begin : (k : Condition) (a b : Bool) → alike (inResourceWait k) a ≡ true → (a ≡ false → b ≡ false) → not (isReady k && b) ≡ true
+may-begin Free a b h f = refl
+may-begin Ready a b h f = rw (f (sym (alike-eq false a h)))
+may-begin ResourceWait a b h f = refl
+may-begin (EcbWait n) a b h f = refl
+may-begin Ended a b h f = refl

@@ -12,6 +12,7 @@ pub mod Mothers
 pub mod Conditions
 pub mod Blocks
 pub mod Settling
+pub mod Requeuing
 pub mod Leaving
 pub mod Endings
 pub mod Posts

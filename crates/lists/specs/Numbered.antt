@@ -95,6 +95,13 @@ module _ {A : Type 0} where
       let b = both (p n x) (everyAt p (n + 1) l) e in
       join (q n (f n x)) (everyAt q (n + 1) (mapAt f (n + 1) l)) (h n x (b .0)) (everyAt-mapAt p q f h (n + 1) l (b .1))
 
+  -- a test that gives another
+  pub everyAt-gives : (p q : ℕ → A → Bool) → ((k : ℕ) (x : A) → p k x ≡ true → q k x ≡ true) → (n : ℕ) (l : List A) → everyAt p n l ≡ true → everyAt q n l ≡ true
+  everyAt-gives p q h n [] e = refl
+  everyAt-gives p q h n (x ∷ l) e =
+      let b = both (p n x) (everyAt p (n + 1) l) e in
+      join (q n x) (everyAt q (n + 1) l) (h n x (b .0)) (everyAt-gives p q h (n + 1) l (b .1))
+
   -- two changes that agree wherever a test of every element holds
   pub mapAt-where : (p : ℕ → A → Bool) (f g : ℕ → A → A) → ((k : ℕ) (x : A) → p k x ≡ true → f k x ≡ g k x)
       → (n : ℕ) (l : List A) → everyAt p n l ≡ true → mapAt f n l ≡ mapAt g n l

@@ -3,3 +3,5 @@ pub mod Chains
 pub mod Mothers
 pub mod Reaching
 pub mod Sums
+pub mod Walks
+pub mod Freeing

@@ -1,7 +1,9 @@
 // The task table: task n stands at place n - 1.
 pub mod attach;
 pub mod choice;
+pub mod ending;
 pub mod sound;
+pub mod subtasks;
 
 use kinds::Task;
 use kinds::TaskNumber;

@@ -75,3 +75,12 @@ module _ {A : Type 0} (f : A → Bool) (l : List A) (i : ℕ) where
 
   pub rest-end : length l ≤ i → every f (drop i l) ≡ true
   rest-end h = ap (every f) (drop-of-length-le l h)
+
+  pub rest-here : (d : A) → i < length l → f (getD l i d) ≡ true → some f (drop i l) ≡ true
+  rest-here d h e = ap (some f) (drop-cons l i d h) ∙ rw e
+
+  pub rest-later : (d : A) → i < length l → f (getD l i d) ≡ false → some f (drop i l) ≡ some f (drop (i + 1) l)
+  rest-later d h e = ap (some f) (drop-cons l i d h) ∙ rw (e, add-one i)
+
+  pub rest-none : length l ≤ i → some f (drop i l) ≡ false
+  rest-none h = ap (some f) (drop-of-length-le l h)

@@ -1,0 +1,14 @@
+use Rattle.rules.specs.Family.{isSubtaskOf}
+use borrow.Author.Needs.{needs}
+use Rattle.family.proofs.subtasks.is_subtask_of.Statement.{statement}
+use Rattle.family.proofs.subtasks.is_subtask_of.Tie as tie
+
+is-free-requires : tie.Need-is-free-requires
+is-free-requires c κs = search needs
+
+returns : tie.Need-returns
+unfolding isSubtaskOf
+returns c = rw ((c .before .before .is-free) .ensures)
+
+pub is-subtask-of-spec : {M : Type 1} → statement M
+is-subtask-of-spec = tie.close (tie.spec is-free-requires returns)

@@ -1,6 +1,6 @@
 -- A place x that was looked up, and following a chain of mothers by one step from it. Assumes nothing.
 use mathlib.Core.Path.{_≡_, refl, sym, ap, _∙_}
-use mathlib.Core.Bool.{Bool, true, false}
+use mathlib.Core.Bool.{Bool, true, false, not}
 use mathlib.Core.List.{List}
 use Prim.Native.Nat.{ℕ, zero, suc, _-_, _≤_, _<_}
 use native.Mathlib.Omega.{arith}
@@ -12,24 +12,21 @@ use Rattle.laws.specs.Wiping.{inUse}
 use Rattle.laws.specs.Chains.{only}
 
 module _ (ts : List Task) (n : ℕ) (x : Task) (e : x ≡ place ts n) where
-  pub in-use : isFree (x .condition) ≡ false → used ts n ≡ true
+  -- what is said of the place holds of its task
+  pub use-of : (b : Bool) → inUse x ≡ b → used ts n ≡ b
   unfolding used
-  in-use u = ap inUse (sym e) ∙ rw u
-
-  pub not-in-use : isFree (x .condition) ≡ true → used ts n ≡ false
-  unfolding used
-  not-in-use u = ap inUse (sym e) ∙ rw u
+  use-of b u = ap inUse (sym e) ∙ u
 
 module _ (ts : List Task) (c n : ℕ) (x : Task) (e : x ≡ place ts n) where
   pub chain-free : (steps : ℕ) → isFree (x .condition) ≡ true → false ≡ chain steps ts (only c) n
   unfolding chain
   chain-free zero u = refl
-  chain-free (suc steps) u = rw (not-in-use ts n x e u)
+  chain-free (suc steps) u = rw (use-of ts n x e false (ap not u))
 
   pub chain-found : (steps : ℕ) → 0 < steps → isFree (x .condition) ≡ false → eqb n c ≡ true → true ≡ chain steps ts (only c) n
   unfolding chain
   chain-found zero h u t = absurd (omega arith)
-  chain-found (suc steps) h u t = rw (in-use ts n x e u, t)
+  chain-found (suc steps) h u t = rw (use-of ts n x e true (ap not u), t)
 
   pub chain-next : (steps : ℕ) → 0 < steps → isFree (x .condition) ≡ false → eqb n c ≡ false
       → chain (steps - 1) ts (only c) (x .mother .0) ≡ chain steps ts (only c) n
@@ -37,7 +34,7 @@ module _ (ts : List Task) (c n : ℕ) (x : Task) (e : x ≡ place ts n) where
   chain-next zero h u t = absurd (omega arith)
   chain-next (suc steps) h u t =
       let k : suc steps - 1 ≡ steps = omega arith in
-      ap (λ (m : ℕ). chain m ts (only c) (x .mother .0)) k ∙ ap (λ (y : Task). chain steps ts (only c) (y .mother .0)) e ∙ sym (rw (in-use ts n x e u, t))
+      ap (λ (m : ℕ). chain m ts (only c) (x .mother .0)) k ∙ ap (λ (y : Task). chain steps ts (only c) (y .mother .0)) e ∙ sym (rw (use-of ts n x e true (ap not u), t))
 
 pub chain-done : (steps : ℕ) (ts : List Task) (test : ℕ → Bool) (n : ℕ) → steps ≤ 0 → false ≡ chain steps ts test n
 unfolding chain

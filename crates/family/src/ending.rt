@@ -15,8 +15,7 @@ pub fn end_task(f: Family, n: TaskNumber) -> Family
     ensures { λ r. ⌜ r ≡ familyOf (wiped (below (f .places) (n .0)) (f .places)) ⌝ }
 {
     let x = crate::at(f, n);
-    let k = x.condition;
-    if k.is_free() {
+    if !crate::in_use(x) {
         return f;
     }
     let y = Task::free();
@@ -46,8 +45,7 @@ pub fn end_tasks(f: Family, c: TaskNumber, last: Task) -> Family
     ensures { λ r. ⌜ r ≡ familyOf (endTasks (f .places) (c .0) last) ⌝ }
 {
     let x = crate::at(f, c);
-    let k = x.condition;
-    if k.is_free() {
+    if !crate::in_use(x) {
         return f;
     }
     let g = end_task(f, c);

@@ -11,6 +11,7 @@ ghost use mathlib.Core.Path.{_≡_};
 ghost use Prim.Native.Nat.{_≤_};
 ghost use Rattle.kinds.specs.Limits.{lowestTask, highestTask};
 ghost use Rattle.rules.specs.Family.{place, live, withPlace, below};
+ghost use Rattle.laws.specs.Wiping.{inUse};
 ghost use Rattle.family.specs.Families.{familyOf, nobody};
 
 pub struct Family {
@@ -48,6 +49,14 @@ pub fn is_live(f: Family, n: TaskNumber) -> bool
     let x = at(f, n);
     let k = x.condition;
     k.is_live()
+}
+
+// x is the place of a task that is live, or ended and not detached.
+pub fn in_use(x: Task) -> bool
+    ensures { λ r. ⌜ r ≡ inUse x ⌝ }
+{
+    let k = x.condition;
+    !k.is_free()
 }
 
 // The task table with x at place n.

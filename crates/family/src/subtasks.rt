@@ -9,8 +9,7 @@ ghost use Rattle.rules.specs.Family.{isSubtaskOf, directSubtask, hasSubtasks};
 pub fn is_subtask_of(x: Task, n: TaskNumber) -> bool
     ensures { λ r. ⌜ r ≡ isSubtaskOf (n .0) x ⌝ }
 {
-    let k = x.condition;
-    !k.is_free() & (x.mother.0 == n.0)
+    crate::in_use(x) & (x.mother.0 == n.0)
 }
 
 // Task n is a direct subtask of c.

@@ -1,12 +1,14 @@
 -- The proof of the cycle of calls {end_task, end_subtasks}. `end_task` frees a place that is in use before it walks, so the measure is 2 for each place
 -- in use, and 1 more for the walk. The loop's invariant: what is left of the walk makes of the table what the whole walk makes of the first one.
 use mathlib.Core.Path.{_≡_, sym, ap, _∙_}
+use mathlib.Core.Bool.{true, false}
 use mathlib.Core.List.{List}
 use Prim.Native.Nat.{ℕ, _+_, _-_, _*_, _≤_, _<_}
 use native.Mathlib.Nat.{le-refl}
 use native.Mathlib.Omega.{arith}
 use lib.ListN.{length}
 use borrow.Author.Needs.{needs}
+use borrow.Author.Tests.{not-true, not-false}
 use Rattle.lists.specs.Arrays.{mapped-length}
 use Rattle.kinds.specs.declared.tasks.Task.{Task}
 use Rattle.rules.specs.Family.{below}
@@ -15,7 +17,7 @@ use Rattle.laws.specs.Chains.{used-pos, used-within, usedPlaces, wiped-few}
 use Rattle.family.specs.declared.Family.{Family}
 use Rattle.family.specs.Families.{familyOf}
 use Rattle.family.specs.Under.{under}
-use Rattle.family.proofs.Chains.{in-use, not-in-use}
+use Rattle.family.proofs.Chains.{use-of}
 use Rattle.family.proofs.Walks.{underAbove, walk-starts, walk-done, walk-on, step-in}
 use Rattle.family.proofs.Freeing.{end-none, end-in, freed-fewer}
 use borrow.Fn.Kinds.{In}
@@ -27,9 +29,9 @@ use Rattle.family.proofs.ending.end_task.Reads as end-task
 use Rattle.family.proofs.ending.end_task.Kinds as end-task-kinds
 use Rattle.family.proofs.ending.+end_subtasks+end_task.Lts-end_task as end-task-lts
 use Rattle.family.proofs.at.Reads as at-reads
+use Rattle.family.proofs.in_use.Reads as in-use-reads
 use Rattle.family.proofs.subtasks.is_subtask_of.Reads as is-subtask-of-reads
 use Rattle.family.proofs.with_place.Reads as with-place-reads
-use Rattle.kinds.proofs.tasks.Condition.is_free.Reads as is-free-reads
 use Rattle.kinds.proofs.tasks.Task.free.Reads as free-reads
 use Rattle.family.proofs.ending.+end_subtasks+end_task.{statement}
 use Rattle.family.proofs.ending.+end_subtasks+end_task.Tie.{close}
@@ -115,13 +117,12 @@ end-subtasks-add-k : (t : ℕ) → end-subtasks-lts.Need-add-k (
 ) (end-subtasks-at t) end-subtasks.Post end-subtasks-Inv-loop end-subtasks-μ-loop
 end-subtasks-add-k t c = omega arith
 
-end-subtasks-is-subtask-of-requires :
-    (t : ℕ) → end-subtasks-lts.Need-is-subtask-of-requires (
-      is-subtask-of-reads.Asked,
-      is-subtask-of-reads.Learnt,
-      end-task-below t,
-      end-task.Post,
-    ) (end-subtasks-at t) end-subtasks.Post end-subtasks-Inv-loop end-subtasks-μ-loop
+end-subtasks-is-subtask-of-requires : (t : ℕ) → end-subtasks-lts.Need-is-subtask-of-requires (
+  is-subtask-of-reads.Asked,
+  is-subtask-of-reads.Learnt,
+  end-task-below t,
+  end-task.Post,
+) (end-subtasks-at t) end-subtasks.Post end-subtasks-Inv-loop end-subtasks-μ-loop
 end-subtasks-is-subtask-of-requires t c κs = search needs
 
 end-subtasks-end-task-requires : (t : ℕ) → end-subtasks-lts.Need-end-task-requires (
@@ -188,8 +189,8 @@ end-subtasks-returns t c =
 end-task-at-requires : (t : ℕ) → end-task-lts.Need-at-requires (
   at-reads.Asked,
   at-reads.Learnt,
-  is-free-reads.Asked,
-  is-free-reads.Learnt,
+  in-use-reads.Asked,
+  in-use-reads.Learnt,
   free-reads.Asked,
   free-reads.Learnt,
   with-place-reads.Asked,
@@ -199,11 +200,11 @@ end-task-at-requires : (t : ℕ) → end-task-lts.Need-at-requires (
 ) (end-task-at t) end-task.Post
 end-task-at-requires t c κs = search needs
 
-end-task-is-free-requires : (t : ℕ) → end-task-lts.Need-is-free-requires (
+end-task-in-use-requires : (t : ℕ) → end-task-lts.Need-in-use-requires (
   at-reads.Asked,
   at-reads.Learnt,
-  is-free-reads.Asked,
-  is-free-reads.Learnt,
+  in-use-reads.Asked,
+  in-use-reads.Learnt,
   free-reads.Asked,
   free-reads.Learnt,
   with-place-reads.Asked,
@@ -211,13 +212,13 @@ end-task-is-free-requires : (t : ℕ) → end-task-lts.Need-is-free-requires (
   end-subtasks-below t,
   end-subtasks.Post,
 ) (end-task-at t) end-task.Post
-end-task-is-free-requires t c κs = search needs
+end-task-in-use-requires t c κs = search needs
 
 end-task-returns : (t : ℕ) → end-task-lts.Need-returns (
   at-reads.Asked,
   at-reads.Learnt,
-  is-free-reads.Asked,
-  is-free-reads.Learnt,
+  in-use-reads.Asked,
+  in-use-reads.Learnt,
   free-reads.Asked,
   free-reads.Learnt,
   with-place-reads.Asked,
@@ -227,13 +228,14 @@ end-task-returns : (t : ℕ) → end-task-lts.Need-returns (
 ) (end-task-at t) end-task.Post
 end-task-returns t c =
     let a = c .before .before .before .args in
-    ap familyOf (end-none (a .f .places) (a .n .0) (not-in-use (a .f .places) (a .n .0) (c .before .before .at .result) (c .before .before .at .ensures) (sym (c .before .is-free .ensures) ∙ c .if1 .taken)))
+    let ts = a .f .places in
+    ap familyOf (end-none ts (a .n .0) (use-of ts (a .n .0) (c .before .before .at .result) (c .before .before .at .ensures) false (sym (c .before .in-use .ensures) ∙ not-true _ (c .if1 .taken))))
 
 end-task-free-requires : (t : ℕ) → end-task-lts.Need-free-requires (
   at-reads.Asked,
   at-reads.Learnt,
-  is-free-reads.Asked,
-  is-free-reads.Learnt,
+  in-use-reads.Asked,
+  in-use-reads.Learnt,
   free-reads.Asked,
   free-reads.Learnt,
   with-place-reads.Asked,
@@ -246,8 +248,8 @@ end-task-free-requires t c κs = search needs
 end-task-with-place-requires : (t : ℕ) → end-task-lts.Need-with-place-requires (
   at-reads.Asked,
   at-reads.Learnt,
-  is-free-reads.Asked,
-  is-free-reads.Learnt,
+  in-use-reads.Asked,
+  in-use-reads.Learnt,
   free-reads.Asked,
   free-reads.Learnt,
   with-place-reads.Asked,
@@ -258,7 +260,7 @@ end-task-with-place-requires : (t : ℕ) → end-task-lts.Need-with-place-requir
 end-task-with-place-requires t c κs =
     let a = c .before .before .before .before .args in
     let ts = a .f .places in
-    let u = in-use ts (a .n .0) (c .before .before .before .at .result) (c .before .before .before .at .ensures) (sym (c .before .before .is-free .ensures) ∙ c .before .if1 .left) in
+    let u = use-of ts (a .n .0) (c .before .before .before .at .result) (c .before .before .before .at .ensures) true (sym (c .before .before .in-use .ensures) ∙ not-false _ (c .before .if1 .left)) in
     let l : length ts ≡ 32 = search (needs, mapped-length) in
     let low = used-pos ts (a .n .0) u in
     let high = used-within ts (a .n .0) u in
@@ -267,8 +269,8 @@ end-task-with-place-requires t c κs =
 end-task-end-subtasks-requires : (t : ℕ) → end-task-lts.Need-end-subtasks-requires (
   at-reads.Asked,
   at-reads.Learnt,
-  is-free-reads.Asked,
-  is-free-reads.Learnt,
+  in-use-reads.Asked,
+  in-use-reads.Learnt,
   free-reads.Asked,
   free-reads.Learnt,
   with-place-reads.Asked,
@@ -279,15 +281,15 @@ end-task-end-subtasks-requires : (t : ℕ) → end-task-lts.Need-end-subtasks-re
 end-task-end-subtasks-requires t c κs =
     let a = c .before .before .before .before .before .args in
     let ts = a .f .places in
-    let u = in-use ts (a .n .0) (c .before .before .before .before .at .result) (c .before .before .before .before .at .ensures) (sym (c .before .before .before .is-free .ensures) ∙ c .before .before .if1 .left) in
+    let u = use-of ts (a .n .0) (c .before .before .before .before .at .result) (c .before .before .before .before .at .ensures) true (sym (c .before .before .before .in-use .ensures) ∙ not-false _ (c .before .before .if1 .left)) in
     let r = freed-fewer ts (a .n .0) u (c .with-place .result .places) (c .before .free .result) (c .before .free .ensures) (ap placesOf (c .with-place .ensures)) in
     search needs
 
 end-task-returns-2 : (t : ℕ) → end-task-lts.Need-returns-2 (
   at-reads.Asked,
   at-reads.Learnt,
-  is-free-reads.Asked,
-  is-free-reads.Learnt,
+  in-use-reads.Asked,
+  in-use-reads.Learnt,
   free-reads.Asked,
   free-reads.Learnt,
   with-place-reads.Asked,
@@ -298,7 +300,7 @@ end-task-returns-2 : (t : ℕ) → end-task-lts.Need-returns-2 (
 end-task-returns-2 t c =
     let a = c .before .before .before .before .before .before .args in
     let ts = a .f .places in
-    let u = in-use ts (a .n .0) (c .before .before .before .before .before .at .result) (c .before .before .before .before .before .at .ensures) (sym (c .before .before .before .before .is-free .ensures) ∙ c .before .before .before .if1 .left) in
+    let u = use-of ts (a .n .0) (c .before .before .before .before .before .at .result) (c .before .before .before .before .before .at .ensures) true (sym (c .before .before .before .before .in-use .ensures) ∙ not-false _ (c .before .before .before .if1 .left)) in
     let l : length ts ≡ 32 = search (needs, mapped-length) in
     c .end-subtasks .ensures
     ∙ ap familyOf (end-in ts (a .n .0) u l (c .before .with-place .result .places) (c .before .before .free .result) (c .before .before .free .ensures) (ap placesOf (c .before .with-place .ensures)))
@@ -329,8 +331,8 @@ pub +end-subtasks+end-task-spec : {M : Type 1} → statement M
     λ t. end-task-lts.spec (
       at-reads.Asked,
       at-reads.Learnt,
-      is-free-reads.Asked,
-      is-free-reads.Learnt,
+      in-use-reads.Asked,
+      in-use-reads.Learnt,
       free-reads.Asked,
       free-reads.Learnt,
       with-place-reads.Asked,
@@ -341,7 +343,7 @@ pub +end-subtasks+end-task-spec : {M : Type 1} → statement M
     (end-task-at t)
     end-task.Post
     (end-task-at-requires t)
-    (end-task-is-free-requires t)
+    (end-task-in-use-requires t)
     (end-task-returns t)
     (end-task-free-requires t)
     (end-task-with-place-requires t)

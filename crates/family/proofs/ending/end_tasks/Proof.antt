@@ -1,11 +1,13 @@
 use mathlib.Core.Path.{_≡_, sym, ap, _∙_}
+use mathlib.Core.Bool.{true, false}
+use borrow.Author.Tests.{not-true, not-false}
 use lib.ListN.{length}
 use Rattle.lists.specs.Arrays.{mapped-length}
 use Rattle.rules.specs.Family.{withPlace}
 use Rattle.laws.specs.Chains.{used-pos, used-within}
 use Rattle.family.specs.declared.Family.{Family}
 use Rattle.family.specs.Families.{familyOf}
-use Rattle.family.proofs.Chains.{in-use, not-in-use}
+use Rattle.family.proofs.Chains.{use-of}
 use Rattle.family.proofs.Freeing.{ends-none, ends-in}
 use borrow.Author.Needs.{needs}
 use Rattle.family.proofs.ending.end_tasks.Statement.{statement}
@@ -14,14 +16,14 @@ use Rattle.family.proofs.ending.end_tasks.Tie as tie
 at-requires : tie.Need-at-requires
 at-requires c κs = search needs
 
-is-free-requires : tie.Need-is-free-requires
-is-free-requires c κs = search needs
+in-use-requires : tie.Need-in-use-requires
+in-use-requires c κs = search needs
 
 returns : tie.Need-returns
 returns c =
     let a = (c .before .before .before .args) in
     let ts = a .f .places in
-    ap familyOf (ends-none ts (a .c .0) (not-in-use ts (a .c .0) ((c .before .before .at) .result) ((c .before .before .at) .ensures) (sym ((c .before .is-free) .ensures) ∙ (c .if1) .taken)) (a .last))
+    ap familyOf (ends-none ts (a .c .0) (use-of ts (a .c .0) ((c .before .before .at) .result) ((c .before .before .at) .ensures) false (sym ((c .before .in-use) .ensures) ∙ not-true _ ((c .if1) .taken))) (a .last))
 
 end-task-requires : tie.Need-end-task-requires
 end-task-requires c κs = search needs
@@ -30,7 +32,7 @@ with-place-requires : tie.Need-with-place-requires
 with-place-requires c κs =
     let a = (c .before .before .before .before .args) in
     let ts = a .f .places in
-    let u = in-use ts (a .c .0) ((c .before .before .before .at) .result) ((c .before .before .before .at) .ensures) (sym ((c .before .before .is-free) .ensures) ∙ (c .before .if1) .left) in
+    let u = use-of ts (a .c .0) ((c .before .before .before .at) .result) ((c .before .before .before .at) .ensures) true (sym ((c .before .before .in-use) .ensures) ∙ not-false _ ((c .before .if1) .left)) in
     let l : length ts ≡ 32 = search (needs, mapped-length) in
     let low = used-pos ts (a .c .0) u in
     let high = used-within ts (a .c .0) u in
@@ -40,7 +42,7 @@ returns-2 : tie.Need-returns-2
 returns-2 c =
     let a = (c .before .before .before .before .before .args) in
     let ts = a .f .places in
-    let u = in-use ts (a .c .0) ((c .before .before .before .before .at) .result) ((c .before .before .before .before .at) .ensures) (sym ((c .before .before .before .is-free) .ensures) ∙ (c .before .before .if1) .left) in
+    let u = use-of ts (a .c .0) ((c .before .before .before .before .at) .result) ((c .before .before .before .before .at) .ensures) true (sym ((c .before .before .before .in-use) .ensures) ∙ not-false _ ((c .before .before .if1) .left)) in
     let l : length ts ≡ 32 = search (needs, mapped-length) in
     (c .with-place) .ensures
     ∙ ap (λ (g : Family). familyOf (withPlace (g .places) (a .c .0) (a .last))) ((c .before .end-task) .ensures)
@@ -49,4 +51,4 @@ returns-2 c =
 pub end-tasks-spec : {M : Type 1} → statement M
 end-tasks-spec =
     tie.close
-    (tie.spec at-requires is-free-requires returns end-task-requires with-place-requires returns-2)
+    (tie.spec at-requires in-use-requires returns end-task-requires with-place-requires returns-2)

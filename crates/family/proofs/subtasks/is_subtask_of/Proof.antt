@@ -3,12 +3,12 @@ use borrow.Author.Needs.{needs}
 use Rattle.family.proofs.subtasks.is_subtask_of.Statement.{statement}
 use Rattle.family.proofs.subtasks.is_subtask_of.Tie as tie
 
-is-free-requires : tie.Need-is-free-requires
-is-free-requires c κs = search needs
+in-use-requires : tie.Need-in-use-requires
+in-use-requires c κs = search needs
 
 returns : tie.Need-returns
 unfolding isSubtaskOf
-returns c = rw ((c .before .before .is-free) .ensures)
+returns c = rw ((c .before .before .in-use) .ensures)
 
 pub is-subtask-of-spec : {M : Type 1} → statement M
-is-subtask-of-spec = tie.close (tie.spec is-free-requires returns)
+is-subtask-of-spec = tie.close (tie.spec in-use-requires returns)

@@ -3,6 +3,7 @@ pub mod Pick
 pub mod Bools
 pub mod Every
 pub mod Pairs
+pub mod Once
 pub mod Keeping
 pub mod Numbered
 pub mod Setting

@@ -8,14 +8,14 @@ use lib.Seq.{slice}
 use Rattle.lists.specs.Arrays.{mapped-length}
 use Rattle.queue.specs.Queues.{entryOf}
 use Rattle.rules.specs.SoundQueue.{sameRequest, entriesOnce}
-use Rattle.queue.proofs.Tests.{onceFrom, once-next, once-found, once-passed, once-end, all-once}
+use Rattle.lists.specs.Once.{onceFrom, once-next, once-found, once-passed, once-end, all-once}
 use Rattle.lists.specs.Lists.{distinct}
 use Rattle.kinds.specs.Limits.{mostEntries}
 use Rattle.queue.proofs.entries_once.Statement.{statement}
 use Rattle.queue.proofs.entries_once.Tie as tie
 
 abbrev Inv-loop2 : tie.InvT-loop2
-Inv-loop2 q n i x j₀ j = (i ≤ j) × (j ≤ n) × (n ≤ mostEntries) × (length (q .slots) ≡ mostEntries) × (distinct sameRequest (take n (map entryOf (q .slots))) ≡ onceFrom (entryOf x) (slice j n (map entryOf (q .slots))) (slice i n (map entryOf (q .slots))))
+Inv-loop2 q n i x j₀ j = (i ≤ j) × (j ≤ n) × (n ≤ mostEntries) × (length (q .slots) ≡ mostEntries) × (distinct sameRequest (take n (map entryOf (q .slots))) ≡ onceFrom sameRequest (entryOf x) (slice j n (map entryOf (q .slots))) (slice i n (map entryOf (q .slots))))
 
 abbrev μ-loop2 : tie.MeasureT-loop2
 μ-loop2 q n i x j₀ j = n - j
@@ -39,13 +39,13 @@ add-i : tie.Need-add-i Inv-loop2 μ-loop2 Inv-loop μ-loop
 add-i c = omega arith
 
 loop2-holds : tie.Need-loop2-holds Inv-loop2 μ-loop2 Inv-loop μ-loop
-loop2-holds c = (omega arith, omega arith, omega arith, omega arith, (c .before .before .loop) .inv .3 ∙ once-next ((c .before .before .before .args) .t1 .slots) ((c .before .before .before .args) .t1 .count) ((c .before .before .loop) .i) _ (omega arith) (omega arith))
+loop2-holds c = (omega arith, omega arith, omega arith, omega arith, (c .before .before .loop) .inv .3 ∙ once-next sameRequest entryOf ((c .before .before .before .args) .t1 .slots) ((c .before .before .before .args) .t1 .count) ((c .before .before .loop) .i) _ (omega arith) (omega arith))
 
 loop-less : tie.Need-loop-less Inv-loop2 μ-loop2 Inv-loop μ-loop
 loop-less c = omega arith
 
 loop-again : tie.Need-loop-again Inv-loop2 μ-loop2 Inv-loop μ-loop
-loop-again c = (omega arith, omega arith, omega arith, (c .before .loop2) .inv .4 ∙ once-end _ _ ((c .before .before .before .before .before .args) .t1 .slots) ((c .before .before .before .before .before .args) .t1 .count) ((c .before .loop2) .j) (omega arith))
+loop-again c = (omega arith, omega arith, omega arith, (c .before .loop2) .inv .4 ∙ once-end sameRequest entryOf ((c .before .before .before .before .before .args) .t1 .slots) ((c .before .before .before .before .before .args) .t1 .count) _ _ ((c .before .loop2) .j) (omega arith))
 
 mul-y : tie.Need-mul-y Inv-loop2 μ-loop2 Inv-loop μ-loop
 mul-y c = omega arith
@@ -58,7 +58,7 @@ same-request-requires c κs = search needs
 
 returns : tie.Need-returns Inv-loop2 μ-loop2 Inv-loop μ-loop
 unfolding entriesOnce
-returns c = sym ((c .before .before .before .before .loop2) .inv .4 ∙ once-found _ _ ((c .before .before .before .before .before .before .before .before .args) .t1 .slots) ((c .before .before .before .before .before .before .before .before .args) .t1 .count) ((c .before .before .before .before .loop2) .j) _ (omega arith) (omega arith) (sym ((c .before .same-request) .ensures) ∙ (c .if1) .taken))
+returns c = sym ((c .before .before .before .before .loop2) .inv .4 ∙ once-found sameRequest entryOf ((c .before .before .before .before .before .before .before .before .args) .t1 .slots) ((c .before .before .before .before .before .before .before .before .args) .t1 .count) _ _ ((c .before .before .before .before .loop2) .j) _ (omega arith) (omega arith) (sym ((c .before .same-request) .ensures) ∙ (c .if1) .taken))
 
 add-j : tie.Need-add-j Inv-loop2 μ-loop2 Inv-loop μ-loop
 add-j c = omega arith
@@ -67,11 +67,11 @@ loop2-less : tie.Need-loop2-less Inv-loop2 μ-loop2 Inv-loop μ-loop
 loop2-less c = omega arith
 
 loop2-again : tie.Need-loop2-again Inv-loop2 μ-loop2 Inv-loop μ-loop
-loop2-again c = (omega arith, omega arith, omega arith, omega arith, (c .before .before .before .before .loop2) .inv .4 ∙ once-passed _ _ ((c .before .before .before .before .before .before .before .before .args) .t1 .slots) ((c .before .before .before .before .before .before .before .before .args) .t1 .count) ((c .before .before .before .before .loop2) .j) _ (omega arith) (omega arith) (sym ((c .before .same-request) .ensures) ∙ (c .if1) .left))
+loop2-again c = (omega arith, omega arith, omega arith, omega arith, (c .before .before .before .before .loop2) .inv .4 ∙ once-passed sameRequest entryOf ((c .before .before .before .before .before .before .before .before .args) .t1 .slots) ((c .before .before .before .before .before .before .before .before .args) .t1 .count) _ _ ((c .before .before .before .before .loop2) .j) _ (omega arith) (omega arith) (sym ((c .before .same-request) .ensures) ∙ (c .if1) .left))
 
 returns-2 : tie.Need-returns-2 Inv-loop2 μ-loop2 Inv-loop μ-loop
 unfolding entriesOnce
-returns-2 c = sym ((c .before .loop) .inv .3 ∙ all-once ((c .before .before .args) .t1 .slots) ((c .before .before .args) .t1 .count) ((c .before .loop) .i) (omega arith))
+returns-2 c = sym ((c .before .loop) .inv .3 ∙ all-once sameRequest entryOf ((c .before .before .args) .t1 .slots) ((c .before .before .args) .t1 .count) ((c .before .loop) .i) (omega arith))
 
 pub entries-once-spec : {M : Type 1} → statement M
 entries-once-spec =

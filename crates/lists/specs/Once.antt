@@ -1,0 +1,38 @@
+-- No two of a list are the same, along a loop over what the places i to n - 1 of an array show. Assumes nothing.
+use mathlib.Core.Path.{_≡_, ap, _∙_}
+use mathlib.Core.Bool.{Bool, true, false, not, _&&_}
+use mathlib.Core.List.{List, map}
+use Prim.Native.Nat.{ℕ, _+_, _≤_, _<_}
+use lib.ListN.{length, getD}
+use lib.Seq.{slice, slice-empty}
+use Rattle.lists.specs.Lists.{some, distinct}
+use Rattle.lists.specs.Every.{slice-view}
+
+-- x is compared with the rest, and the others with each other
+unfoldable pub onceFrom : {B : Type 0} → (B → B → Bool) → B → List B → List B → Bool
+onceFrom same x rest others = not (some (same x) rest) && distinct same others
+
+module _ {A B : Type 0} (same : B → B → Bool) (view : A → B) (es : List A) (n : ℕ) where
+  -- the element at i against those behind it, and those by themselves
+  pub once-next : (i : ℕ) (d : A) → i < n → n ≤ length es
+      → distinct same (slice i n (map view es)) ≡ onceFrom same (view (getD es i d)) (slice (i + 1) n (map view es)) (slice (i + 1) n (map view es))
+  unfolding onceFrom
+  once-next i d h k = ap (distinct same) (slice-view view es i n d h k)
+
+  pub all-once : (i : ℕ) → i ≡ n → distinct same (slice i n (map view es)) ≡ true
+  all-once i e = rw e (ap (distinct same) (slice-empty n (map view es)))
+
+  -- x against those from j on
+  module _ (x : B) (others : List B) (j : ℕ) where
+    pub once-found : (d : A) → j < n → n ≤ length es → same x (view (getD es j d)) ≡ true → onceFrom same x (slice j n (map view es)) others ≡ false
+    unfolding onceFrom
+    once-found d h k e = ap (λ (l : List B). not (some (same x) l) && distinct same others) (slice-view view es j n d h k) ∙ rw e
+
+    pub once-passed : (d : A) → j < n → n ≤ length es → same x (view (getD es j d)) ≡ false
+        → onceFrom same x (slice j n (map view es)) others ≡ onceFrom same x (slice (j + 1) n (map view es)) others
+    unfolding onceFrom
+    once-passed d h k e = ap (λ (l : List B). not (some (same x) l) && distinct same others) (slice-view view es j n d h k) ∙ rw e
+
+    pub once-end : j ≡ n → onceFrom same x (slice j n (map view es)) others ≡ distinct same others
+    unfolding onceFrom
+    once-end e = rw e (ap (λ (l : List B). not (some (same x) l) && distinct same others) (slice-empty n (map view es)))

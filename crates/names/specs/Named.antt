@@ -1,7 +1,9 @@
 -- The name that a name's struct shows, and the names beside a request. Assumes nothing.
 use Prim.Native.Nat.{ℕ}
 use mathlib.Core.List.{List, _++_, map}
-use lib.ListN.{take, replicate}
+use lib.ListN.{length, take, replicate}
+use Rattle.lists.specs.Tables.{padded}
+use Rattle.kinds.specs.Limits.{longestMinor}
 use Rattle.kinds.specs.declared.names.Name.{Name}
 use Rattle.kinds.specs.declared.names.Wanted.{Wanted}
 use Rattle.kinds.specs.declared.names.NameList.{NameList}
@@ -14,8 +16,16 @@ shown n bytes = take n (bytes ++ replicate n 0)
 abbrev pub resourceOf : Name → Resource
 resourceOf n = record { major = n .major; minor = shown (n .length) (n .minor) }
 
+-- the struct that keeps a name: zeros behind the minor part
+abbrev pub kept : Resource → Name
+kept n = record { major = n .major; minor = padded longestMinor 0 (n .minor); length = length (n .minor) }
+
 abbrev pub askOf : Wanted → Ask
 askOf w = record { exclusive = w .exclusive; name = resourceOf (w .name) }
+
+-- the name that is asked for
+abbrev pub wantedName : Wanted → Resource
+wantedName w = resourceOf (w .name)
 
 -- the names within the count
 abbrev pub namesIn : NameList → Names

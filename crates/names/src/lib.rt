@@ -1,10 +1,12 @@
 // Names as bytes: what a name's struct shows, and the tests of it.
+pub mod list;
+
 use kinds::Name;
 ghost use mathlib.Core.Path.{_≡_};
-ghost use Prim.Native.Nat.{min};
+ghost use Prim.Native.Nat.{_≤_, min};
 ghost use Rattle.kinds.specs.Limits.{longestMinor};
 ghost use Rattle.rules.specs.Names.{sameName, legal};
-ghost use Rattle.names.specs.Named.{resourceOf};
+ghost use Rattle.names.specs.Named.{resourceOf, kept};
 
 // How many bytes of the array stand for a minor part of that length.
 fn used(length: u16) -> usize
@@ -40,4 +42,25 @@ pub fn is_legal(n: Name) -> bool
     ensures { λ r. ⌜ r ≡ legal (resourceOf n) ⌝ }
 {
     Name::minor_good(n.length)
+}
+
+// The name with the bytes past its length zero, as the queue keeps it.
+pub fn clean(n: Name) -> Name
+    requires { ⌜ n .length ≤ longestMinor ⌝ }
+    ensures { λ r. ⌜ r ≡ kept (resourceOf n) ⌝ }
+{
+    let major = n.major;
+    let bytes = n.minor;
+    let used = n.length as usize;
+    let mut minor = [0u8; Name::LONGEST];
+    let mut i = 0;
+    while i < used {
+        minor[i] = bytes[i];
+        i += 1;
+    }
+    Name {
+        major,
+        minor,
+        length: n.length,
+    }
 }

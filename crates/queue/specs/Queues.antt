@@ -10,7 +10,7 @@ use Rattle.lists.specs.Lists.{every, sameBytes}
 use Rattle.lists.specs.Tables.{padded}
 use Rattle.kinds.specs.Limits.{mostEntries, longestMinor, majorBytes}
 use Rattle.kinds.specs.declared.names.Slot.{Slot}
-use Rattle.names.specs.Named.{resourceOf}
+use Rattle.names.specs.Named.{resourceOf, kept}
 use Rattle.rules.specs.Control.{Entry}
 use Rattle.queue.specs.declared.Queue.{Queue}
 
@@ -19,11 +19,7 @@ abbrev pub entryOf : Slot → Entry
 entryOf s = record { task = s .task .0; exclusive = s .exclusive; name = resourceOf (s .name) }
 
 abbrev pub slotOf : Entry → Slot
-slotOf e = record {
-  task = record { 0 = e .task };
-  exclusive = e .exclusive;
-  name = record { major = e .name .major; minor = padded longestMinor 0 (e .name .minor); length = length (e .name .minor) };
-}
+slotOf e = record { task = record { 0 = e .task }; exclusive = e .exclusive; name = kept (e .name) }
 
 abbrev pub zeroSlot : Slot
 zeroSlot = record {

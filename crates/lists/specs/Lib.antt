@@ -5,6 +5,7 @@ pub mod Every
 pub mod Pairs
 pub mod Once
 pub mod Keeping
+pub mod Changing
 pub mod Numbered
 pub mod Setting
 pub mod Bytes

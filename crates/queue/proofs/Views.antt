@@ -1,7 +1,7 @@
 -- The laws of the view: what is kept shows again, and a packed queue is kept. Assumes nothing.
 use mathlib.Core.Path.{_≡_, sym, ap, _∙_}
 use mathlib.Core.Bool.{Bool, true, not}
-use mathlib.Core.List.{List, map}
+use mathlib.Core.List.{List, _++_, map}
 use Prim.Native.Nat.{ℕ, _-_, _≤_}
 use native.Mathlib.Omega.{arith}
 use lib.Dec.{eqb, ltb}
@@ -13,7 +13,7 @@ use Rattle.lists.specs.Lists.{every, keep, sameBytes}
 use Rattle.lists.specs.Keeping.{length-keep, take-map}
 use Rattle.lists.specs.Bools.{both}
 use Rattle.lists.specs.Bytes.{same-bytes-eq}
-use Rattle.lists.specs.Tables.{padded, padded-eq, zeros-eq, shown as shows, backs-view, swept}
+use Rattle.lists.specs.Tables.{padded, padded-eq, zeros-eq, shown as shows, backs-view, swept, changed}
 use Rattle.kinds.specs.Limits.{mostEntries, longestMinor, majorBytes}
 use Rattle.kinds.specs.declared.names.Slot.{Slot}
 use Rattle.names.specs.Named.{shown}
@@ -109,3 +109,13 @@ pub swept-rows : (f : Entry → Bool) (q : Queue) → Packed q → length (q .sl
     → rowsOf (keep (λ (s : Slot). f (entryOf s)) (take (q .count) (q .slots))) ≡ stored (keep f (live q))
 swept-rows f q p n =
     ap rowsOf (swept entryOf slotOf mostEntries zeroSlot entry-slot f (q .slots) (q .count) (omega (arith, p .room)) (ap (λ (r : Queue). r .slots) (p .form)))
+
+-- slots changed in place, as the entries that they show are
+pub changed-rows : (f : Entry → Entry) (g : Slot → Slot) → ((e : Entry) → g (slotOf e) ≡ slotOf (f e)) → (q : Queue) → Packed q → length (q .slots) ≡ mostEntries
+    → (r : Queue) → r .slots ≡ map g (take (q .count) (q .slots)) ++ drop (q .count) (q .slots) → r .count ≡ q .count → r ≡ stored (map f (live q))
+changed-rows f g h q p n r e k =
+    let s : r .slots ≡ padded mostEntries zeroSlot (map slotOf (map f (live q))) =
+    e ∙ changed entryOf slotOf mostEntries zeroSlot f g h (q .slots) (q .count) (omega (arith, p .room)) (ap (λ (t : Queue). t .slots) (p .form)) in
+    let c : q .count ≡ length (map slotOf (map f (live q))) =
+    ap (λ (t : Queue). t .count) (p .form) ∙ length-map (live q) slotOf ∙ sym (length-map (map f (live q)) slotOf ∙ length-map (live q) f) in
+    λ i. record { slots = s i; count = (k ∙ c) i }

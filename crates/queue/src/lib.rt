@@ -1,4 +1,6 @@
 // The resource queue: entries in the order of request, packed.
+pub mod changes;
+
 use kinds::Name;
 use kinds::Slot;
 use kinds::TaskNumber;

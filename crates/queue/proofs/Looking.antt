@@ -1,0 +1,75 @@
+-- Whether a slot is a task's for one of the names beside a request: the search along the names. Assumes nothing.
+use mathlib.Core.Path.{_≡_, refl, sym, ap, ap₂, _∙_}
+use mathlib.Core.Bool.{Bool, true, false, not, _&&_, _||_, false≢true}
+use mathlib.Core.List.{List, map}
+use Prim.Native.Nat.{ℕ, _+_, _≤_, _<_}
+use native.Mathlib.Omega.{arith}
+use lib.Dec.{eqb, ltb}
+use lib.ListN.{length, getD, take, length-map, List·getD-map}
+use lib.Seq.{slice, getD-take, length-take-le}
+use borrow.Author.Tests.{ltb-true, ltb-false, not-true}
+use Rattle.lists.specs.Lists.{every, some}
+use Rattle.lists.specs.Every.{slice-view, some-end}
+use Rattle.lists.specs.Setting.{every-at}
+use Rattle.lists.specs.Bools.{both}
+use Rattle.kinds.specs.Limits.{longestMinor}
+use Rattle.kinds.specs.declared.names.Slot.{Slot}
+use Rattle.kinds.specs.declared.names.Wanted.{Wanted}
+use Rattle.kinds.specs.declared.names.NameList.{NameList}
+use Rattle.names.specs.Named.{resourceOf, wantedName, namesIn}
+use Rattle.names.proofs.Listed.{listed}
+use Rattle.names.proofs.Shown.{shown-length}
+use Rattle.rules.specs.Names.{Resource, sameName, legal, namesOf}
+use Rattle.rules.specs.Control.{isForOne}
+use Rattle.queue.specs.Queues.{entryOf}
+use Rattle.queue.proofs.Passes.{legal-short}
+
+-- found, or of the task and still to be found from place j on
+unfoldable pub Looking : ℕ → NameList → Slot → Bool → Bool → ℕ → Type 0
+Looking t l x mine found j =
+    isForOne t (namesOf (namesIn l)) (entryOf x) ≡ (found || (mine && some (sameName (resourceOf (x .name))) (slice j (l .count) (map wantedName (l .names)))))
+
+module _ (t : ℕ) (l : NameList) (x : Slot) where
+  pub look-start : Looking t l x (eqb (x .task .0) t) false 0
+  unfolding Looking
+  look-start = ap (λ (ns : List Resource). isForOne t ns (entryOf x)) (listed l)
+
+  pub look-next : (mine found b : Bool) (j : ℕ) (d : Wanted) → mine ≡ true → found ≡ false → j < l .count → l .count ≤ length (l .names)
+      → b ≡ sameName (resourceOf (x .name)) (wantedName (getD (l .names) j d)) → Looking t l x mine found j → Looking t l x mine b (j + 1)
+  unfolding Looking
+  look-next mine found b j d m f h k e v =
+      v
+      ∙ ap₂ (λ (a : Bool) (o : Bool). a || (o && some (sameName (resourceOf (x .name))) (slice j (l .count) (map wantedName (l .names))))) f m
+      ∙ ap (some (sameName (resourceOf (x .name)))) (slice-view wantedName (l .names) j (l .count) d h k)
+      ∙ ap₂ (λ (a : Bool) (o : Bool). a || (o && some (sameName (resourceOf (x .name))) (slice (j + 1) (l .count) (map wantedName (l .names))))) (sym e) (sym m)
+
+  -- the search goes on
+  pub look-on : (mine found : Bool) (j : ℕ) → Looking t l x mine found j → ((mine && ltb j (l .count)) && not found) ≡ true
+      → (mine ≡ true) × (j < l .count) × (found ≡ false)
+  look-on mine found j v h =
+      let a = both (mine && ltb j (l .count)) (not found) h in
+      let b = both mine (ltb j (l .count)) (a .0) in (b .0, ltb-true j (l .count) (b .1), not-true found (a .1))
+
+  pub look-end : (mine found : Bool) (j : ℕ) → Looking t l x mine found j → ((mine && ltb j (l .count)) && not found) ≡ false → j ≤ l .count
+      → isForOne t (namesOf (namesIn l)) (entryOf x) ≡ found
+  unfolding Looking
+  look-end mine true j v e h = v
+  look-end false false j v e h = v
+  look-end true false j v e h = v ∙ some-end (sameName (resourceOf (x .name))) j (l .count) (map wantedName (l .names)) (done (ltb j (l .count)) refl e)
+    where
+      done : (b : Bool) → ltb j (l .count) ≡ b → (b && true) ≡ false → j ≡ l .count
+      done true p q = absurd (false≢true (sym q))
+      done false p q = let k : l .count ≤ j = ltb-false j (l .count) p in omega arith
+
+-- a legal name's minor part is within its array
+pub name-short : (l : NameList) (i : ℕ) (d : Wanted) → i < l .count → l .count ≤ length (l .names) → every legal (namesOf (namesIn l)) ≡ true
+    → getD (l .names) i d .name .length ≤ longestMinor
+name-short l i d h k e =
+    let few : l .count ≤ length (map wantedName (l .names)) = rw (length-map (l .names) wantedName) k in
+    let s : legal (getD (take (l .count) (map wantedName (l .names))) i (wantedName d)) ≡ true =
+    every-at legal (take (l .count) (map wantedName (l .names))) i (wantedName d) (ap (every legal) (sym (listed l)) ∙ e)
+    (rw (length-take-le (l .count) (map wantedName (l .names)) few) h) in
+    let g : getD (take (l .count) (map wantedName (l .names))) i (wantedName d) ≡ wantedName (getD (l .names) i d) =
+    getD-take (l .count) (map wantedName (l .names)) i (wantedName d) h ∙ List·getD-map wantedName (l .names) i d in
+    let m : length (wantedName (getD (l .names) i d) .minor) ≤ longestMinor = legal-short (wantedName (getD (l .names) i d)) (ap legal (sym g) ∙ s) in
+    omega (arith, shown-length (getD (l .names) i d .name .length) (getD (l .names) i d .name .minor))

@@ -4,6 +4,7 @@ pub mod Wiping
 pub mod Chains
 pub mod Control
 pub mod Lacking
+pub mod Owners
 pub mod Waking
 pub mod Running
 pub mod Kindred

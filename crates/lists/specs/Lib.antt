@@ -11,3 +11,4 @@ pub mod Setting
 pub mod Bytes
 pub mod Arrays
 pub mod Tables
+pub mod Filling

@@ -5,3 +5,4 @@ pub mod Passes
 pub mod Builds
 pub mod Looking
 pub mod Exclusive
+pub mod Flagged

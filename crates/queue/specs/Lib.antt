@@ -1,2 +1,3 @@
 pub mod Queues
 pub mod Marking
+pub mod Flagging

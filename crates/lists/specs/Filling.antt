@@ -1,0 +1,52 @@
+-- Loops that fill a table from a list, place by place, and what the table shows. Assumes nothing.
+use mathlib.Core.Path.{_≡_, refl, sym, ap, _∙_}
+use mathlib.Core.List.{List, [], _∷_, _++_, map, map-append, append-assoc}
+use Prim.Native.Nat.{ℕ, zero, suc, _+_, _-_, _≤_, _<_}
+use native.Mathlib.Numerals.{add-one}
+use native.Mathlib.Nat.{le-of-suc-le-suc}
+use native.Mathlib.Omega.{arith}
+use lib.ListN.{length, getD, take, drop, set, replicate, length-map, List·getD-append}
+use lib.Seq.{take-suc, drop-cons, set-at, getD-take, length-take-le}
+use Rattle.lists.specs.Tables.{padded, push}
+
+module _ {A B : Type 0} (f : A → B) where
+  pub map-at : (l : List A) (i : ℕ) (d : A) (e : B) → i < length l → getD (map f l) i e ≡ f (getD l i d)
+  map-at [] i d e h = absurd (omega arith)
+  map-at (x ∷ l) zero d e h = refl
+  map-at (x ∷ l) (suc i) d e h = map-at l i d e (le-of-suc-le-suc h)
+
+  pub map-next : (l : List A) (i : ℕ) (d : A) → i < length l → map f (take (i + 1) l) ≡ map f (take i l) ++ (f (getD l i d) ∷ [])
+  map-next l i d h = rw (add-one, take-suc l i d h) (map-append f (take i l) (getD l i d ∷ []))
+
+  taken : (l : List A) (n : ℕ) → n ≤ length l → length (map f (take n l)) ≡ n
+  taken l n h = length-map (take n l) f ∙ length-take-le n l h
+
+  -- one place more: f of the list's element i
+  pub fill-next : (size : ℕ) (z : B) (l : List A) (i : ℕ) (d : A) (r : List B) (v : B) → i < length l → i < size
+      → r ≡ padded size z (map f (take i l)) → v ≡ f (getD l i d) → set r i v ≡ padded size z (map f (take (i + 1) l))
+  fill-next size z l i d r v h k e t =
+      let n : length (map f (take i l)) ≡ i = taken l i (omega arith) in
+      ap (λ (s : List B). set s i v) e
+      ∙ ap (λ (j : ℕ). set (padded size z (map f (take i l))) j v) (sym n)
+      ∙ push size z (map f (take i l)) v (omega arith)
+      ∙ ap (λ (x : B). padded size z (map f (take i l) ++ (x ∷ []))) t
+      ∙ ap (padded size z) (sym (map-next l i d h))
+
+  -- what stands at a place that was filled
+  pub filled-at : (size : ℕ) (z : B) (l : List A) (n i : ℕ) (d : A) (e : B) → i < n → n ≤ length l
+      → getD (padded size z (map f (take n l))) i e ≡ f (getD l i d)
+  unfolding padded
+  filled-at size z l n i d e h k =
+      let m : length (map f (take n l)) ≡ n = taken l n k in
+      let j : length (take n l) ≡ n = length-take-le n l k in
+      List·getD-append (map f (take n l)) (replicate (size - length (map f (take n l))) z) e i (omega arith)
+      ∙ map-at (take n l) i d e (omega arith)
+      ∙ ap f (getD-take n l i d h)
+
+-- a loop that copies a list to the front of an area
+pub copy-next : {A : Type 0} (l area : List A) (i : ℕ) (d : A) → i < length l → i < length area
+    → set (take i l ++ drop i area) i (getD l i d) ≡ take (i + 1) l ++ drop (i + 1) area
+copy-next l area i d h k =
+    rw (add-one, take-suc l i d h, drop-cons area i d k)
+    (set-at (take i l) (getD area i d) (drop (suc i) area) (getD l i d) i (length-take-le i l (omega arith))
+    ∙ sym (append-assoc (take i l) (getD l i d ∷ []) (drop (suc i) area)))

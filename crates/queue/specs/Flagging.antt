@@ -1,0 +1,11 @@
+-- One flag for each name beside a request. Assumes nothing.
+use mathlib.Core.Bool.{Bool, false}
+use mathlib.Core.List.{List, map}
+use Rattle.lists.specs.Tables.{padded}
+use Rattle.kinds.specs.Limits.{longestList}
+use Rattle.rules.specs.Names.{Ask, Names}
+use Rattle.queue.specs.declared.flags.Flags.{Flags}
+
+-- the flag of the first name stands at place 0, and so on; false past the count
+unfoldable pub flagsOf : (Ask → Bool) → Names → Flags
+flagsOf f l = record { of = padded longestList false (map f (l .asks)) }

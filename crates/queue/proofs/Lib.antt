@@ -6,3 +6,4 @@ pub mod Builds
 pub mod Looking
 pub mod Exclusive
 pub mod Flagged
+pub mod Soles

@@ -1,6 +1,7 @@
 // The resource queue: entries in the order of request, packed.
 pub mod changes;
 pub mod flags;
+pub mod lead;
 
 use kinds::Name;
 use kinds::Slot;

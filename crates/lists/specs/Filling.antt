@@ -1,5 +1,5 @@
 -- Loops that fill a table from a list, place by place, and what the table shows. Assumes nothing.
-use mathlib.Core.Path.{_≡_, refl, sym, ap, _∙_}
+use mathlib.Core.Path.{_≡_, refl, sym, ap, ap₂, _∙_}
 use mathlib.Core.List.{List, [], _∷_, _++_, map, map-append, append-assoc}
 use Prim.Native.Nat.{ℕ, zero, suc, _+_, _-_, _≤_, _<_}
 use native.Mathlib.Numerals.{add-one}
@@ -7,6 +7,7 @@ use native.Mathlib.Nat.{le-of-suc-le-suc}
 use native.Mathlib.Omega.{arith}
 use lib.ListN.{length, getD, take, drop, set, replicate, length-map, List·getD-append}
 use lib.Seq.{take-suc, drop-cons, set-at, getD-take, length-take-le}
+use Rattle.lists.specs.Lists.{numbers}
 use Rattle.lists.specs.Tables.{padded, push}
 
 module _ {A B : Type 0} (f : A → B) where
@@ -50,3 +51,18 @@ copy-next l area i d h k =
     rw (add-one, take-suc l i d h, drop-cons area i d k)
     (set-at (take i l) (getD area i d) (drop (suc i) area) (getD l i d) i (length-take-le i l (omega arith))
     ∙ sym (append-assoc (take i l) (getD l i d ∷ []) (drop (suc i) area)))
+
+pub number-at : (m k i d : ℕ) → i < k → getD (numbers m k) i d ≡ m + i
+number-at m zero i d h = absurd (omega arith)
+number-at m (suc k) zero d h = omega arith
+number-at m (suc k) (suc i) d h = let e : (m + 1) + i ≡ m + suc i = omega arith in number-at (m + 1) k i d (le-of-suc-le-suc h) ∙ e
+
+-- a table filled by its places' numbers is one filled from a list, where each place gets what its element gets
+pub by-number : {A B : Type 0} (f : ℕ → B) (g : A → B) (d : A) (m k : ℕ) (l : List A) → length l ≤ k → ((j : ℕ) → j < length l → f (m + j) ≡ g (getD l j d))
+    → map f (take (length l) (numbers m k)) ≡ map g l
+by-number f g d m k [] h e = refl
+by-number f g d m zero (x ∷ l) h e = absurd (omega arith)
+by-number {A} {B} f g d m (suc k) (x ∷ l) h e =
+    let z : m ≡ m + 0 = omega arith in
+    ap₂ (λ (b : B) (r : List B). b ∷ r) (ap f z ∙ e 0 (omega arith))
+    (by-number f g d (m + 1) k l (le-of-suc-le-suc h) (λ j w. let s : (m + 1) + j ≡ m + suc j = omega arith in ap f s ∙ e (suc j) (omega arith)))

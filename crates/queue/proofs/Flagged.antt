@@ -1,17 +1,16 @@
--- How the loops over the names beside a request set their flags. Assumes nothing.
+-- The flags of the names beside a request, and the searches that find them. Assumes nothing.
 use mathlib.Core.Path.{_≡_, refl, sym, ap, _∙_}
 use mathlib.Core.Bool.{Bool, true, false, not, _&&_, _||_, and-true, false≢true}
-use mathlib.Core.List.{List, [], _∷_, map}
+use mathlib.Core.List.{List, map}
 use Prim.Native.Nat.{ℕ, _+_, _≤_, _<_}
 use native.Mathlib.Omega.{arith}
 use lib.Dec.{ltb}
-use lib.ListN.{length, getD, take, set, replicate, length-map, length-set, length-replicate, List·getD-map}
+use lib.ListN.{length, getD, take, length-map, List·getD-map}
 use lib.Seq.{slice, slice-empty}
 use borrow.Author.Tests.{ltb-false}
 use Rattle.lists.specs.Lists.{some}
-use Rattle.lists.specs.Tables.{padded}
 use Rattle.lists.specs.Every.{slice-view}
-use Rattle.lists.specs.Filling.{fill-next}
+use Rattle.lists.specs.Filling.{filled-at}
 use Rattle.kinds.specs.Limits.{longestList}
 use Rattle.kinds.specs.declared.names.Slot.{Slot}
 use Rattle.kinds.specs.declared.names.Wanted.{Wanted}
@@ -21,33 +20,21 @@ use Rattle.rules.specs.Names.{Ask}
 use Rattle.rules.specs.Control.{Entry, control, available}
 use Rattle.queue.specs.Queues.{entryOf}
 use Rattle.queue.specs.Flagging.{flagsOf}
+use Rattle.queue.proofs.Filled.{Filled, filled-all}
 use Rattle.queue.specs.declared.flags.Flags.{Flags}
 
--- the first i names have their flags
-pub record Flagged (f : Ask → Bool) (ws : List Wanted) (i : ℕ) (r : Flags) : Type 0 where
-  pub long : length (r .of) ≡ longestList
-  pub set-so : r .of ≡ padded longestList false (map f (take i (map askOf ws)))
-
-module _ (f : Ask → Bool) (ws : List Wanted) where
-  pub no-flags : Flagged f ws 0 (record { of = replicate longestList false })
-  unfolding padded
-  no-flags = record { long = length-replicate longestList false; set-so = refl }
-
-  pub flag-next : (i : ℕ) (d : Wanted) (r : Flags) (b : Bool) → i < longestList → length ws ≡ longestList → f (askOf (getD ws i d)) ≡ b
-      → Flagged f ws i r → Flagged f ws (i + 1) (record { of = set (r .of) i b })
-  flag-next i d r b h k e v = record {
-    long = length-set (r .of) i b ∙ v .long;
-    set-so =
-        fill-next f longestList false (map askOf ws) i (askOf d) (r .of) b (omega (arith, length-map ws askOf)) h (v .set-so)
-        (sym (ap f (List·getD-map askOf ws i d) ∙ e));
-  }
-
-pub flags-are : (f : Ask → Bool) (l : NameList) (i : ℕ) (r : Flags) → i ≡ l .count → Flagged f (l .names) i r → r ≡ flagsOf f (namesIn l)
+pub flags-are : (f : Ask → Bool) (l : NameList) (i : ℕ) (r : Flags) → i ≡ l .count → Filled false f (map askOf (l .names)) i (r .of) → r ≡ flagsOf f (namesIn l)
 unfolding flagsOf
-flags-are f l i r e v =
-    let s : r .of ≡ padded longestList false (map f (take (l .count) (map askOf (l .names)))) =
-    v .set-so ∙ ap (λ (k : ℕ). padded longestList false (map f (take k (map askOf (l .names))))) e in
-    λ j. record { of = s j }
+flags-are f l i r e v = let s = filled-all false f (map askOf (l .names)) i (l .count) (r .of) e v in λ j. record { of = s j }
+
+-- the flag of one name
+pub flag-at : (f : Ask → Bool) (l : NameList) (r : Flags) (i : ℕ) (d : Wanted) (e : Bool) → r ≡ flagsOf f (namesIn l) → i < l .count → l .count ≤ length (l .names)
+    → getD (r .of) i e ≡ f (askOf (getD (l .names) i d))
+unfolding flagsOf
+flag-at f l r i d e v h k =
+    ap (λ (x : Flags). getD (x .of) i e) v
+    ∙ filled-at f longestList false (map askOf (l .names)) (l .count) i (askOf d) e h (omega (arith, length-map (l .names) askOf))
+    ∙ ap f (List·getD-map askOf (l .names) i d)
 
 -- a request is tested as an entry at the tail would be
 pub tail-available : (q : List Entry) (t : ℕ) (a : Ask) → available q a ≡ control q (record { task = t; exclusive = a .exclusive; name = a .name })

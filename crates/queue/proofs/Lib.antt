@@ -5,5 +5,7 @@ pub mod Passes
 pub mod Builds
 pub mod Looking
 pub mod Exclusive
+pub mod Filled
 pub mod Flagged
+pub mod Coded
 pub mod Soles

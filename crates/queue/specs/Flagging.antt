@@ -1,6 +1,6 @@
 -- One flag for each name beside a request. Assumes nothing.
 use mathlib.Core.Bool.{Bool, false}
-use mathlib.Core.List.{List, map}
+use mathlib.Core.List.{map}
 use Rattle.lists.specs.Tables.{padded}
 use Rattle.kinds.specs.Limits.{longestList}
 use Rattle.rules.specs.Names.{Ask, Names}

@@ -1,6 +1,5 @@
 -- The leading run of a name's queue, read entry by entry. Assumes nothing.
-use mathlib.Core.Bool.{Bool, true, false, not, cond, _&&_}
-use mathlib.Core.List.{List, []}
+use mathlib.Core.Bool.{false, not, _&&_}
 use Prim.Native.Nat.{ℕ}
 use Rattle.lists.specs.Pick.{pick}
 use Rattle.rules.specs.Names.{Resource, sameName}

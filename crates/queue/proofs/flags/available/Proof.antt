@@ -1,4 +1,6 @@
-use Prim.Native.Nat.{ℕ, _≤_, _<_, _-_}
+use mathlib.Core.List.{map}
+use mathlib.Core.Bool.{false}
+use Prim.Native.Nat.{_≤_, _<_, _-_}
 use mathlib.Core.Path.{_≡_, _∙_}
 use native.Mathlib.Omega.{arith}
 use borrow.Author.Needs.{needs}
@@ -12,7 +14,8 @@ use Rattle.rules.specs.Control.{available}
 use Rattle.names.specs.Named.{askOf}
 use Rattle.queue.specs.Queues.{entryOf, live}
 use Rattle.queue.proofs.Barring.{Seeking, seek-start, seek-next, seek-end}
-use Rattle.queue.proofs.Flagged.{Flagged, no-flags, flag-next, flags-are, tail-available}
+use Rattle.queue.proofs.Filled.{Filled, none-filled, ask-next}
+use Rattle.queue.proofs.Flagged.{flags-are, tail-available}
 use Rattle.queue.proofs.flags.available.Statement.{statement}
 use Rattle.queue.proofs.flags.available.Tie as tie
 
@@ -23,7 +26,7 @@ abbrev μ-loop2 : tie.MeasureT-loop2
 μ-loop2 q l n m r i e free₀ j₀ free j = n - j
 
 abbrev Inv-loop : tie.InvT-loop
-Inv-loop q l n m r₀ i₀ r i = (i ≤ m) × (m ≤ longestList) × (n ≤ mostEntries) × (length (q .slots) ≡ mostEntries) × (length (l .names) ≡ longestList) × Flagged (available (live q)) (l .names) i r
+Inv-loop q l n m r₀ i₀ r i = (i ≤ m) × (m ≤ longestList) × (n ≤ mostEntries) × (length (q .slots) ≡ mostEntries) × (length (l .names) ≡ longestList) × Filled false (available (live q)) (map askOf (l .names)) i (r .of)
 
 abbrev μ-loop : tie.MeasureT-loop
 μ-loop q l n m r₀ i₀ r i = m - i
@@ -32,7 +35,7 @@ cast-m : tie.Need-cast-m Inv-loop2 μ-loop2 Inv-loop μ-loop
 cast-m c = search needs
 
 loop-holds : tie.Need-loop-holds Inv-loop2 μ-loop2 Inv-loop μ-loop
-loop-holds c = (omega arith, omega arith, omega arith, search (needs, mapped-length), search (needs, mapped-length), no-flags _ _)
+loop-holds c = (omega arith, omega arith, omega arith, search (needs, mapped-length), search (needs, mapped-length), none-filled _ _ _)
 
 mul-w : tie.Need-mul-w Inv-loop2 μ-loop2 Inv-loop μ-loop
 mul-w c = omega arith
@@ -83,7 +86,7 @@ loop-again c = (
   omega arith,
   omega arith,
   omega arith,
-  flag-next (available (live ((c .before .before .before .before .before .before .args) .t1))) ((c .before .before .before .before .before .before .args) .t2 .names) ((c .before .before .before .before .before .loop) .i) _ ((c .before .before .before .before .before .loop) .r) ((c .before .loop2) .free) (omega arith) (omega arith)
+  ask-next false (available (live ((c .before .before .before .before .before .before .args) .t1))) ((c .before .before .before .before .before .before .args) .t2 .names) ((c .before .before .before .before .before .loop) .i) _ ((c .before .before .before .before .before .loop) .r .of) ((c .before .loop2) .free) (omega arith) (omega arith)
       (tail-available (live ((c .before .before .before .before .before .before .args) .t1)) 0 _
       ∙ seek-end ((c .before .before .before .before .before .before .args) .t1 .slots) _ ((c .before .before .before .before .before .before .args) .t1 .count) ((c .before .loop2) .j) ((c .before .loop2) .free) (omega arith) ((c .loop2-test) .left) ((c .before .loop2) .inv .3))
       ((c .before .before .before .before .before .loop) .inv .5),

@@ -3,6 +3,7 @@ pub mod Priorities
 pub mod Wiping
 pub mod Chains
 pub mod Control
+pub mod SameNames
 pub mod Lacking
 pub mod Owners
 pub mod Waking
@@ -14,6 +15,7 @@ pub mod Conditions
 pub mod Blocks
 pub mod Settling
 pub mod Requeuing
+pub mod Queueing
 pub mod Leaving
 pub mod Endings
 pub mod Posts

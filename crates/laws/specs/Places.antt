@@ -6,6 +6,7 @@ use Prim.Native.Nat.{ℕ, zero, suc, _+_, _-_, _≤_, _<_}
 use native.Mathlib.Nat.{le-of-suc-le-suc}
 use native.Mathlib.Omega.{arith}
 use lib.ListN.{length, getD, List·getD-eq-default}
+use lib.Seq.{ext-getD}
 use Rattle.lists.specs.Lists.{every, everyAt}
 use Rattle.lists.specs.Setting.{every-at}
 use Rattle.lists.specs.Numbered.{everyAt-from, everyAt-at}
@@ -44,3 +45,9 @@ at-number p ts e n low high =
 
 pub every-number : (p : Task → Bool) (ts : List Task) → every p ts ≡ true → (n : ℕ) → 0 < n → n ≤ length ts → p (place ts n) ≡ true
 every-number p ts e n low high = subst (λ (x : Task). p x ≡ true) (sym (place-at ts n low)) (every-at p ts (n - 1) noTask e (omega arith))
+
+-- tables that agree at every number that has a place are the same
+pub by-range : (ts us : List Task) → length ts ≡ length us → ((n : ℕ) → 0 < n → n ≤ length us → place ts n ≡ place us n) → ts ≡ us
+by-range ts us l h =
+    ext-getD noTask ts us l
+    (λ i b. sym (place-next ts i) ∙ h (1 + i) (omega arith) (omega arith) ∙ place-next us i)

@@ -1,4 +1,6 @@
 // The event control blocks: ECB n stands at place n.
+pub mod list;
+
 use kinds::Ecb;
 use kinds::EcbNumber;
 use kinds::TaskNumber;

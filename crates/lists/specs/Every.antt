@@ -1,6 +1,6 @@
 -- A test of every element, or of some, along loops: over the places i to n - 1, over what they show, and to an array's end. Assumes nothing.
 use mathlib.Core.Path.{_≡_, refl, sym, ap, _∙_}
-use mathlib.Core.Bool.{Bool, true, false, _&&_, and-assoc}
+use mathlib.Core.Bool.{Bool, true, false, _&&_, _||_, and-assoc, or-assoc}
 use mathlib.Core.List.{List, [], _∷_, _++_, map}
 use Prim.Native.Nat.{ℕ, _+_, _≤_, _<_}
 use native.Mathlib.Numerals.{add-one}
@@ -13,6 +13,10 @@ module _ {A : Type 0} where
   pub every-append : (f : A → Bool) (p q : List A) → every f (p ++ q) ≡ (every f p && every f q)
   every-append f [] q = refl
   every-append f (x ∷ p) q = ap (λ b. f x && b) (every-append f p q) ∙ sym (and-assoc (f x) (every f p) (every f q))
+
+  pub some-append : (f : A → Bool) (p q : List A) → some f (p ++ q) ≡ (some f p || some f q)
+  some-append f [] q = refl
+  some-append f (x ∷ p) q = ap (λ b. f x || b) (some-append f p q) ∙ sym (or-assoc (f x) (some f p) (some f q))
 
   pub every-same : (f g : A → Bool) → ((x : A) → f x ≡ g x) → (l : List A) → every f l ≡ every g l
   every-same f g h [] = refl

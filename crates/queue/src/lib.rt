@@ -3,6 +3,8 @@ pub mod changes;
 pub mod codes;
 pub mod flags;
 pub mod lead;
+pub mod deq;
+pub mod enq;
 
 use kinds::Name;
 use kinds::Slot;

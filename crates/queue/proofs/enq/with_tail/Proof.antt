@@ -8,8 +8,8 @@ use Rattle.kinds.specs.Limits.{mostEntries, longestList}
 use Rattle.queue.specs.Queues.{stored, Packed}
 use Rattle.queue.proofs.Builds.{tailed, none-yet, tail-room, tail-full, queued}
 use Rattle.queue.proofs.Looking.{name-short}
-use Rattle.queue.proofs.changes.with_tail.Statement.{statement}
-use Rattle.queue.proofs.changes.with_tail.Tie as tie
+use Rattle.queue.proofs.enq.with_tail.Statement.{statement}
+use Rattle.queue.proofs.enq.with_tail.Tie as tie
 
 abbrev Inv-loop : tie.InvT-loop
 Inv-loop c l n r₀ i₀ r i = (i ≤ n) × (n ≤ longestList) × (length (l .names) ≡ longestList) × (r₀ .count + n ≤ mostEntries) × Packed r₀ × (r ≡ stored (tailed (c .0) r₀ (l .names) i))

@@ -16,8 +16,8 @@ use Rattle.queue.specs.Queues.{entryOf, rowsOf}
 use Rattle.queue.proofs.Views.{swept-rows}
 use Rattle.queue.proofs.Builds.{room, full, stays, goes}
 use Rattle.queue.proofs.Looking.{Looking, look-start, look-next, look-end, look-on}
-use Rattle.queue.proofs.changes.release.Statement.{statement}
-use Rattle.queue.proofs.changes.release.Tie as tie
+use Rattle.queue.proofs.deq.release.Statement.{statement}
+use Rattle.queue.proofs.deq.release.Tie as tie
 
 abbrev Inv-loop2 : tie.InvT-loop2
 Inv-loop2 c q l n k r i x a mine found₀ j₀ found j = (j ≤ k) × (k ≤ longestList) × (length (l .names) ≡ longestList) × Looking (c .0) l x mine found j
@@ -50,27 +50,27 @@ loop2-holds : tie.Need-loop2-holds Inv-loop2 μ-loop2 Inv-loop μ-loop
 loop2-holds c = (omega arith, omega arith, omega arith, look-start _ _ _)
 
 mul-w : tie.Need-mul-w Inv-loop2 μ-loop2 Inv-loop μ-loop
-mul-w c = let h = look-on ((c .before .before .before .before .before .before .before .before .before .args) .c .0) ((c .before .before .before .before .before .before .before .before .before .args) .t3) _ _ ((c .before .loop2) .found) ((c .before .loop2) .j) ((c .before .loop2) .inv .3) ((c .loop2-test) .taken) in omega arith
+mul-w c = let h = look-on ((c .before .loop2) .inv .3) ((c .loop2-test) .taken) in omega arith
 
 element-copy-out-w : tie.Need-element-copy-out-w Inv-loop2 μ-loop2 Inv-loop μ-loop
-element-copy-out-w c = let h = look-on ((c .before .before .before .before .before .before .before .before .before .args) .c .0) ((c .before .before .before .before .before .before .before .before .before .args) .t3) _ _ ((c .before .loop2) .found) ((c .before .loop2) .j) ((c .before .loop2) .inv .3) ((c .loop2-test) .taken) in omega arith
+element-copy-out-w c = let h = look-on ((c .before .loop2) .inv .3) ((c .loop2-test) .taken) in omega arith
 
 same-name-requires : tie.Need-same-name-requires Inv-loop2 μ-loop2 Inv-loop μ-loop
 same-name-requires c κs = search needs
 
 add-j : tie.Need-add-j Inv-loop2 μ-loop2 Inv-loop μ-loop
-add-j c = let h = look-on ((c .before .before .before .before .before .before .before .before .before .before .before .before .args) .c .0) ((c .before .before .before .before .before .before .before .before .before .before .before .before .args) .t3) _ _ ((c .before .before .before .before .loop2) .found) ((c .before .before .before .before .loop2) .j) ((c .before .before .before .before .loop2) .inv .3) ((c .before .before .before .loop2-test) .taken) in omega arith
+add-j c = let h = look-on ((c .before .before .before .before .loop2) .inv .3) ((c .before .before .before .loop2-test) .taken) in omega arith
 
 loop2-less : tie.Need-loop2-less Inv-loop2 μ-loop2 Inv-loop μ-loop
-loop2-less c = let h = look-on ((c .before .before .before .before .before .before .before .before .before .before .before .before .args) .c .0) ((c .before .before .before .before .before .before .before .before .before .before .before .before .args) .t3) _ _ ((c .before .before .before .before .loop2) .found) ((c .before .before .before .before .loop2) .j) ((c .before .before .before .before .loop2) .inv .3) ((c .before .before .before .loop2-test) .taken) in omega arith
+loop2-less c = let h = look-on ((c .before .before .before .before .loop2) .inv .3) ((c .before .before .before .loop2-test) .taken) in omega arith
 
 loop2-again : tie.Need-loop2-again Inv-loop2 μ-loop2 Inv-loop μ-loop
 loop2-again c =
-    let h = look-on ((c .before .before .before .before .before .before .before .before .before .before .before .before .args) .c .0) ((c .before .before .before .before .before .before .before .before .before .before .before .before .args) .t3) _ _ ((c .before .before .before .before .loop2) .found) ((c .before .before .before .before .loop2) .j) ((c .before .before .before .before .loop2) .inv .3) ((c .before .before .before .loop2-test) .taken) in (
+    let h = look-on ((c .before .before .before .before .loop2) .inv .3) ((c .before .before .before .loop2-test) .taken) in (
       omega arith,
       omega arith,
       omega arith,
-      look-next ((c .before .before .before .before .before .before .before .before .before .before .before .before .args) .c .0) ((c .before .before .before .before .before .before .before .before .before .before .before .before .args) .t3) _ _ ((c .before .before .before .before .loop2) .found) ((c .same-name) .result) ((c .before .before .before .before .loop2) .j) _ (h .0) (h .2) (h .1) (omega arith) ((c .same-name) .ensures) ((c .before .before .before .before .loop2) .inv .3),
+      look-next ((c .same-name) .result) _ ((c .before .before .before .before .loop2) .inv .3) ((c .before .before .before .loop2-test) .taken) (omega arith) ((c .same-name) .ensures),
     )
 
 mul-x-2 : tie.Need-mul-x-2 Inv-loop2 μ-loop2 Inv-loop μ-loop
@@ -109,7 +109,7 @@ loop-again c =
     let a = (c .before .before .before .before .before .before .before .before .before .before .args) in
     let l = (c .before .before .before .before .before .before .before .before .loop) in
     let f : Slot → Bool = λ (s : Slot). not (isForOne (a .c .0) (namesOf (namesIn (a .t3))) (entryOf s)) in
-    let e = look-end (a .c .0) (a .t3) _ _ ((c .before .before .loop2) .found) ((c .before .before .loop2) .j) ((c .before .before .loop2) .inv .3) ((c .before .loop2-test) .left) (omega arith) in (
+    let e = look-end ((c .before .before .loop2) .inv .3) ((c .before .loop2-test) .left) (omega arith) in (
       omega arith,
       omega arith,
       omega arith,

@@ -12,8 +12,8 @@ use Rattle.rules.specs.Enq.{madeExclusive}
 use Rattle.queue.proofs.Views.{changed-rows}
 use Rattle.queue.proofs.Looking.{Looking, look-start, look-next, look-end, look-on}
 use Rattle.queue.proofs.Exclusive.{exclusiveSlot, exclusive-kept, exclusive-next}
-use Rattle.queue.proofs.changes.made_exclusive.Statement.{statement}
-use Rattle.queue.proofs.changes.made_exclusive.Tie as tie
+use Rattle.queue.proofs.enq.made_exclusive.Statement.{statement}
+use Rattle.queue.proofs.enq.made_exclusive.Tie as tie
 
 abbrev Inv-loop2 : tie.InvT-loop2
 Inv-loop2 c l n k r i x a mine found₀ j₀ found j = (j ≤ k) × (k ≤ longestList) × (length (l .names) ≡ longestList) × Looking (c .0) l x mine found j
@@ -43,27 +43,27 @@ loop2-holds : tie.Need-loop2-holds Inv-loop2 μ-loop2 Inv-loop μ-loop
 loop2-holds c = (omega arith, omega arith, omega arith, look-start _ _ _)
 
 mul-w : tie.Need-mul-w Inv-loop2 μ-loop2 Inv-loop μ-loop
-mul-w c = let h = look-on ((c .before .before .before .before .before .before .before .before .args) .c .0) ((c .before .before .before .before .before .before .before .before .args) .t3) _ _ ((c .before .loop2) .found) ((c .before .loop2) .j) ((c .before .loop2) .inv .3) ((c .loop2-test) .taken) in omega arith
+mul-w c = let h = look-on ((c .before .loop2) .inv .3) ((c .loop2-test) .taken) in omega arith
 
 element-copy-out-w : tie.Need-element-copy-out-w Inv-loop2 μ-loop2 Inv-loop μ-loop
-element-copy-out-w c = let h = look-on ((c .before .before .before .before .before .before .before .before .args) .c .0) ((c .before .before .before .before .before .before .before .before .args) .t3) _ _ ((c .before .loop2) .found) ((c .before .loop2) .j) ((c .before .loop2) .inv .3) ((c .loop2-test) .taken) in omega arith
+element-copy-out-w c = let h = look-on ((c .before .loop2) .inv .3) ((c .loop2-test) .taken) in omega arith
 
 same-name-requires : tie.Need-same-name-requires Inv-loop2 μ-loop2 Inv-loop μ-loop
 same-name-requires c κs = search needs
 
 add-j : tie.Need-add-j Inv-loop2 μ-loop2 Inv-loop μ-loop
-add-j c = let h = look-on ((c .before .before .before .before .before .before .before .before .before .before .before .args) .c .0) ((c .before .before .before .before .before .before .before .before .before .before .before .args) .t3) _ _ ((c .before .before .before .before .loop2) .found) ((c .before .before .before .before .loop2) .j) ((c .before .before .before .before .loop2) .inv .3) ((c .before .before .before .loop2-test) .taken) in omega arith
+add-j c = let h = look-on ((c .before .before .before .before .loop2) .inv .3) ((c .before .before .before .loop2-test) .taken) in omega arith
 
 loop2-less : tie.Need-loop2-less Inv-loop2 μ-loop2 Inv-loop μ-loop
-loop2-less c = let h = look-on ((c .before .before .before .before .before .before .before .before .before .before .before .args) .c .0) ((c .before .before .before .before .before .before .before .before .before .before .before .args) .t3) _ _ ((c .before .before .before .before .loop2) .found) ((c .before .before .before .before .loop2) .j) ((c .before .before .before .before .loop2) .inv .3) ((c .before .before .before .loop2-test) .taken) in omega arith
+loop2-less c = let h = look-on ((c .before .before .before .before .loop2) .inv .3) ((c .before .before .before .loop2-test) .taken) in omega arith
 
 loop2-again : tie.Need-loop2-again Inv-loop2 μ-loop2 Inv-loop μ-loop
 loop2-again c =
-    let h = look-on ((c .before .before .before .before .before .before .before .before .before .before .before .args) .c .0) ((c .before .before .before .before .before .before .before .before .before .before .before .args) .t3) _ _ ((c .before .before .before .before .loop2) .found) ((c .before .before .before .before .loop2) .j) ((c .before .before .before .before .loop2) .inv .3) ((c .before .before .before .loop2-test) .taken) in (
+    let h = look-on ((c .before .before .before .before .loop2) .inv .3) ((c .before .before .before .loop2-test) .taken) in (
       omega arith,
       omega arith,
       omega arith,
-      look-next ((c .before .before .before .before .before .before .before .before .before .before .before .args) .c .0) ((c .before .before .before .before .before .before .before .before .before .before .before .args) .t3) _ _ ((c .before .before .before .before .loop2) .found) ((c .same-name) .result) ((c .before .before .before .before .loop2) .j) _ (h .0) (h .2) (h .1) (omega arith) ((c .same-name) .ensures) ((c .before .before .before .before .loop2) .inv .3),
+      look-next ((c .same-name) .result) _ ((c .before .before .before .before .loop2) .inv .3) ((c .before .before .before .loop2-test) .taken) (omega arith) ((c .same-name) .ensures),
     )
 
 mul-y : tie.Need-mul-y Inv-loop2 μ-loop2 Inv-loop μ-loop
@@ -88,7 +88,7 @@ loop-again c =
       omega arith,
       length-set (l .r .slots) (l .i) _ ∙ l .inv .4,
       l .inv .5,
-      exclusive-next (a .c .0) (namesOf (namesIn (a .t3))) (a .q .slots) (l .r .slots) (l .i) _ ((c .before .before .loop2) .found) (omega arith) (l .inv .6) (look-end (a .c .0) (a .t3) _ _ ((c .before .before .loop2) .found) ((c .before .before .loop2) .j) ((c .before .before .loop2) .inv .3) ((c .before .loop2-test) .left) (omega arith)),
+      exclusive-next (a .c .0) (namesOf (namesIn (a .t3))) (a .q .slots) (l .r .slots) (l .i) _ ((c .before .before .loop2) .found) (omega arith) (l .inv .6) (look-end ((c .before .before .loop2) .inv .3) ((c .before .loop2-test) .left) (omega arith)),
     )
 
 returns : tie.Need-returns Inv-loop2 μ-loop2 Inv-loop μ-loop

@@ -1,5 +1,4 @@
 // The resource queue: entries in the order of request, packed.
-pub mod changes;
 pub mod codes;
 pub mod flags;
 pub mod lead;

@@ -4,6 +4,7 @@ pub mod choice;
 pub mod ending;
 pub mod sound;
 pub mod subtasks;
+pub mod verdicts;
 
 use kinds::Task;
 use kinds::TaskNumber;

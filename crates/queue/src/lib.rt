@@ -1,9 +1,9 @@
 // The resource queue: entries in the order of request, packed.
 pub mod codes;
-pub mod flags;
-pub mod lead;
 pub mod deq;
 pub mod enq;
+pub mod flags;
+pub mod lead;
 
 use kinds::Name;
 use kinds::Slot;

@@ -45,12 +45,13 @@ pub fn waits_good(q: Queue, f: Family) -> bool
     requires { ⌜ q .count ≤ mostEntries ⌝ }
     ensures { λ r. ⌜ r ≡ waitsGood (live q) (f .places) ⌝ }
 {
-    let m = queue::lacking(q);
+    let all = queue::all_marks();
+    let m = queue::lacking(q, all);
     let mut i = 0;
     while i < TaskNumber::PLACES {
         let x = f.places[i];
         i += 1;
-        let l = m.lacking[i];
+        let l = m.tasks[i];
         if !wait_good(x, l) {
             return false;
         }

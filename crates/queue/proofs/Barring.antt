@@ -1,17 +1,16 @@
 -- Which tasks lack control, entry by entry: the search for an entry that bars, and the marks. Assumes nothing.
-use mathlib.Core.Path.{_≡_, refl, sym, ap, _∙_}
-use mathlib.Core.Bool.{Bool, true, false, not, _&&_, _||_, or-true, or-false, or-assoc, and-true, and-false}
+use mathlib.Core.Path.{_≡_, refl, sym, ap, ap₂, _∙_}
+use mathlib.Core.Bool.{Bool, true, false, not, _&&_, _||_, or-false, or-assoc, and-true, and-false, false≢true}
 use mathlib.Core.List.{List, [], _∷_, _++_, map, append-nil}
 use Prim.Native.Nat.{ℕ, _+_, _≤_, _<_}
 use native.Mathlib.Numerals.{add-one}
 use native.Mathlib.Omega.{arith}
 use lib.Dec.{eqb, ltb}
-use lib.ListN.{length, take, getD, set, replicate, length-map, length-set, length-replicate, getD-replicate, List·getD-map}
-use lib.Seq.{slice, slice-empty, take-suc, append-snoc, getD-set-same, getD-set-other, set-out, ext-getD}
-use borrow.Author.Tests.{eqb-true, eqb-false, ltb-false}
-use Rattle.lists.specs.Lists.{every, numbers}
-use Rattle.lists.specs.Numbered.{length-numbers, numbers-at}
-use Rattle.lists.specs.Pick.{pick, pick-true, pick-false}
+use lib.ListN.{length, take, getD, set, length-map, length-set, length-replicate, getD-replicate, List·getD-map}
+use lib.Seq.{slice, slice-empty, take-suc, append-snoc, getD-set-same, getD-set-other, set-out}
+use borrow.Author.Tests.{eqb-true, eqb-false, ltb-true, ltb-false}
+use Rattle.lists.specs.Lists.{every}
+use Rattle.lists.specs.Bools.{both}
 use Rattle.lists.specs.Every.{slice-view}
 use Rattle.kinds.specs.Limits.{highestTask}
 use Rattle.kinds.specs.declared.names.Slot.{Slot}
@@ -19,8 +18,8 @@ use Rattle.rules.specs.Control.{Entry, ofTask, control, lacksFrom, lacks}
 use Rattle.rules.specs.Rings.{bars}
 use Rattle.laws.specs.Control.{free, control-each}
 use Rattle.queue.specs.Queues.{entryOf}
-use Rattle.queue.specs.Marking.{marksOf, withMark}
-use Rattle.queue.specs.declared.Marks.{Marks}
+use Rattle.queue.specs.Marking.{markAt, noMarks, lacksAmong, withMark, Marked}
+use Rattle.queue.specs.declared.marks.Marks.{Marks}
 
 -- one more entry: whoever lacked control lacks it, and its task too where it has none
 pub lacks-append : (t : ℕ) (p l : List Entry) (e : Entry)
@@ -33,102 +32,104 @@ lacks-append t p (x ∷ l) e =
     ∙ ap (λ (r : List Entry). lacksFrom t (p ++ (x ∷ [])) l || (ofTask t e && not (control r e))) (append-snoc p x l))
     ∙ sym (or-assoc (ofTask t x && not (control p x)) (lacksFrom t (p ++ (x ∷ [])) l) (ofTask t e && not (control (p ++ (x ∷ l)) e)))
 
--- the search, behind the first i slots, for one that bars e: from place j on, while none was found
-unfoldable pub Seeking : List Slot → Entry → ℕ → ℕ → Bool → Type 0
-Seeking es e i j so = control (take i (map entryOf es)) e ≡ (so && every (free e) (slice j i (map entryOf es)))
+-- the search, behind the first i slots, for one that bars e: from place j on, while e is sought and none was found
+unfoldable pub Seeking : List Slot → Entry → ℕ → Bool → ℕ → Bool → Type 0
+Seeking es e i sought j so =
+    (not sought || control (take i (map entryOf es)) e) ≡ (so && (not sought || every (free e) (slice j i (map entryOf es))))
 
-pub seek-end : (es : List Slot) (e : Entry) (i j : ℕ) (so : Bool) → j ≤ i → (ltb j i && so) ≡ false → Seeking es e i j so → control (take i (map entryOf es)) e ≡ so
+pub seek-start : (es : List Slot) (e : Entry) (i : ℕ) (sought : Bool) → Seeking es e i sought 0 true
 unfolding Seeking
-seek-end es e i j true h k v =
-    let m : i ≤ j = ltb-false j i (sym (and-true (ltb j i)) ∙ k) in
-    let n : j ≡ i = omega arith in
-    v ∙ rw n (ap (every (free e)) (slice-empty i (map entryOf es)))
-seek-end es e i j false h k v = v
+seek-start es e i sought = ap (λ (b : Bool). not sought || b) (control-each (take i (map entryOf es)) e)
 
-pub seek-start : (es : List Slot) (e : Entry) (i : ℕ) → Seeking es e i 0 true
-unfolding Seeking
-seek-start es e i = control-each (take i (map entryOf es)) e
+-- the search goes on
+pub seek-on : (i j : ℕ) (sought so : Bool) → ((ltb j i && sought) && so) ≡ true → (j < i) × (sought ≡ true) × (so ≡ true)
+seek-on i j sought so h =
+    let a = both (ltb j i && sought) so h in
+    let b = both (ltb j i) sought (a .0) in
+    (ltb-true j i (b .0), b .1, a .1)
 
-pub seek-next : (es : List Slot) (e : Entry) (i j : ℕ) (d : Slot) (so b : Bool) → j < i → i ≤ length es → so ≡ true
-    → b ≡ bars (entryOf (getD es j d)) e → Seeking es e i j so → Seeking es e i (j + 1) (not b)
+pub seek-next : (es : List Slot) (e : Entry) (i j : ℕ) (d : Slot) (sought so b : Bool) → j < i → i ≤ length es → sought ≡ true → so ≡ true
+    → b ≡ bars (entryOf (getD es j d)) e → Seeking es e i sought j so → Seeking es e i sought (j + 1) (not b)
 unfolding free Seeking
-seek-next es e i j d so b h k s t v =
+seek-next es e i j d true so b h k w s t v =
     v ∙ ap (λ (a : Bool). a && every (free e) (slice j i (map entryOf es))) s
     ∙ ap (every (free e)) (slice-view entryOf es j i d h k)
     ∙ ap (λ (a : Bool). not a && every (free e) (slice (j + 1) i (map entryOf es))) (sym t)
+seek-next es e i j d false so b h k w s t v = absurd (false≢true w)
 
--- the marks are those of a list of entries
-pub record Marked (m : Marks) (q : List Entry) : Type 0 where
-  pub long : length (m .lacking) ≡ highestTask + 1
-  pub each : (t : ℕ) → t ≤ highestTask → getD (m .lacking) t false ≡ lacks t q
+pub seek-end : (es : List Slot) (e : Entry) (i j : ℕ) (sought so : Bool) → j ≤ i → ((ltb j i && sought) && so) ≡ false → Seeking es e i sought j so
+    → (not sought || control (take i (map entryOf es)) e) ≡ so
+unfolding Seeking
+seek-end es e i j true true h k v =
+    let m : i ≤ j = ltb-false j i (sym (and-true (ltb j i)) ∙ sym (and-true (ltb j i && true)) ∙ k) in
+    let n : j ≡ i = omega arith in
+    v ∙ rw n (ap (every (free e)) (slice-empty i (map entryOf es)))
+seek-end es e i j false true h k v = v
+seek-end es e i j sought false h k v = v
 
-set-mark : (l : List Bool) (k t : ℕ) → t < length l → getD (set l k true) t false ≡ (getD l t false || eqb k t)
-set-mark l k t h = one (eqb k t) refl
-  where
-    one : (b : Bool) → eqb k t ≡ b → getD (set l k true) t false ≡ (getD l t false || b)
-    one true e = let n : k ≡ t = eqb-true k t e in
-        ap (λ (j : ℕ). getD (set l j true) t false) n ∙ getD-set-same l t true false h ∙ sym (or-true (getD l t false))
-    one false e = getD-set-other l k t true false (λ n. eqb-false k t e (sym n)) ∙ sym (or-false (getD l t false))
+-- the marks are those of a list of entries, among these
+abbrev pub Found : Marks → List Entry → Marks → Type 0
+Found among q m = Marked (lacksAmong among q) (highestTask + 1) m
 
-pub no-marks : Marked (record { lacking = replicate (highestTask + 1) false }) []
-no-marks = record {
+pub none-found : (among : Marks) → Found among [] noMarks
+none-found among = record {
   long = length-replicate (highestTask + 1) false;
-  each = λ t h. getD-replicate (highestTask + 1) t false false (omega arith);
+  each = λ t h. getD-replicate (highestTask + 1) t false false h ∙ sym (and-false (markAt among t));
 }
 
-with-mark : (m : Marks) (l : List Entry) (e : Entry) (g : Bool) → Marked m l → control l e ≡ g → Marked (withMark m (e .task) g) (l ++ (e ∷ []))
-unfolding withMark pick
-with-mark m l e true r h = record {
-  long = r .long;
-  each = λ t k. r .each t k ∙ sym (lacks-append t [] l e ∙ rw (h, and-false, or-false));
-}
-with-mark m l e false r h = record {
-  long = length-set (m .lacking) (e .task) true ∙ r .long;
+-- task t is to be looked at: it is one of these, and was not found
+abbrev pub soughtIn : Marks → Marks → ℕ → Bool
+soughtIn among m t = markAt among t && not (markAt m t)
+
+set-mark : (l : List Bool) (k t : ℕ) (b : Bool) → t < length l → getD (set l k (getD l k false || b)) t false ≡ (getD l t false || (eqb k t && b))
+set-mark l k t b h = one (eqb k t) refl
+  where
+    one : (so : Bool) → eqb k t ≡ so → getD (set l k (getD l k false || b)) t false ≡ (getD l t false || (so && b))
+    one true e = let n : k ≡ t = eqb-true k t e in
+        ap (λ (j : ℕ). getD (set l j (getD l j false || b)) t false) n ∙ getD-set-same l t (getD l t false || b) false h
+    one false e = getD-set-other l k t (getD l k false || b) false (λ n. eqb-false k t e (sym n)) ∙ sym (or-false (getD l t false))
+
+-- a: the task is among these; l: it lacked control; k: the entry is the task's; o: it has control; g: it has control or is not looked at
+mark-is : (a l k o g : Bool) → (k ≡ true → (not (a && not (a && l)) || o) ≡ g) → ((a && l) || (k && not g)) ≡ (a && (l || (k && not o)))
+mark-is false l false o g h = refl
+mark-is true l false o g h = refl
+mark-is false l true o g h = sym (ap not (h refl))
+mark-is true true true o g h = refl
+mark-is true false true o g h = sym (ap not (h refl))
+
+with-mark : (among m : Marks) (l : List Entry) (e : Entry) (g : Bool) → Found among l m → (not (soughtIn among m (e .task)) || control l e) ≡ g
+    → Found among (l ++ (e ∷ [])) (withMark m (e .task) g)
+unfolding withMark
+with-mark among m l e g r h = record {
+  long = length-set (m .tasks) (e .task) (markAt m (e .task) || not g) ∙ r .long;
   each = λ t k.
-      set-mark (m .lacking) (e .task) t (omega (arith, r .long))
-      ∙ ap (λ (b : Bool). b || eqb (e .task) t) (r .each t k)
-      ∙ sym (lacks-append t [] l e ∙ rw (h, and-true));
+      set-mark (m .tasks) (e .task) t (not g) (omega (arith, r .long))
+      ∙ ap (λ (b : Bool). b || (ofTask t e && not g)) (r .each t k)
+      ∙ mark-is (markAt among t) (lacks t l) (ofTask t e) (control l e) g (looked t k)
+      ∙ sym (ap (λ (b : Bool). markAt among t && b) (lacks-append t [] l e));
 }
+  where
+    looked : (t : ℕ) → t < highestTask + 1 → ofTask t e ≡ true → (not (markAt among t && not (markAt among t && lacks t l)) || control l e) ≡ g
+    looked t k o =
+        sym (ap (λ (b : Bool). not (markAt among t && not b) || control l e) (r .each t k))
+        ∙ ap (λ (x : ℕ). not (soughtIn among m x) || control l e) (sym (eqb-true (e .task) t o))
+        ∙ h
 
--- one more slot
-pub marked-next : (es : List Slot) (i : ℕ) (d : Slot) (m r : Marks) (g : Bool) → i < length es → Marked m (take i (map entryOf es))
-    → control (take i (map entryOf es)) (entryOf (getD es i d)) ≡ g → r ≡ withMark m (getD es i d .task .0) g
-    → Marked r (take (i + 1) (map entryOf es))
-marked-next es i d m r g h v k e =
+-- one more slot, whose task is among these or not, and found or not
+pub found-next : (es : List Slot) (i : ℕ) (d : Slot) (among m r : Marks) (named done g : Bool) → i < length es → Found among (take i (map entryOf es)) m
+    → named ≡ markAt among (getD es i d .task .0) → done ≡ markAt m (getD es i d .task .0)
+    → (not (named && not done) || control (take i (map entryOf es)) (entryOf (getD es i d))) ≡ g
+    → r ≡ withMark m (getD es i d .task .0) g
+    → Found among (take (i + 1) (map entryOf es)) r
+found-next es i d among m r named done g h v a b k e =
     let s : take (i + 1) (map entryOf es) ≡ take i (map entryOf es) ++ (entryOf (getD es i d) ∷ []) =
     rw (add-one) (take-suc (map entryOf es) i (entryOf d) (omega (arith, length-map es entryOf)))
     ∙ ap (λ (x : Entry). take i (map entryOf es) ++ (x ∷ [])) (List·getD-map entryOf es i d) in
-    rw (e, s) (with-mark m (take i (map entryOf es)) (entryOf (getD es i d)) g v k)
+    rw (e, s) (with-mark among m (take i (map entryOf es)) (entryOf (getD es i d)) g v
+    (ap₂ (λ (x y : Bool). not (x && not y) || control (take i (map entryOf es)) (entryOf (getD es i d))) (sym a) (sym b) ∙ k))
 
-pub mark-at : (q : List Entry) (t : ℕ) → t ≤ highestTask → getD (marksOf q .lacking) t false ≡ lacks t q
-unfolding marksOf
-mark-at q t h = numbers-at (λ (n : ℕ). lacks n q) false 0 (highestTask + 1) t (omega arith) ∙ ap (λ (n : ℕ). lacks n q) (zero-plus t)
-  where
-    zero-plus : (n : ℕ) → 0 + n ≡ n
-    zero-plus n = omega arith
-
-marks-long : (q : List Entry) → length (marksOf q .lacking) ≡ highestTask + 1
-unfolding marksOf
-marks-long q = length-map (numbers 0 (highestTask + 1)) (λ (n : ℕ). lacks n q) ∙ length-numbers 0 (highestTask + 1)
-
--- nothing else has those marks
-pub marks-are : (m : Marks) (q : List Entry) → Marked m q → m ≡ marksOf q
-marks-are m q r =
-    let e : m .lacking ≡ marksOf q .lacking =
-    ext-getD false (m .lacking) (marksOf q .lacking) (r .long ∙ sym (marks-long q))
-    (λ t h. let k : t ≤ highestTask = omega (arith, r .long) in r .each t k ∙ sym (mark-at q t k)) in
-    λ i. record { lacking = e i }
-
--- how a mark is set
-pub mark-kept : (m : Marks) (t : ℕ) (g : Bool) → g ≡ true → m ≡ withMark m t g
+-- what has no place is not marked
+pub mark-past : (m : Marks) (t : ℕ) (g : Bool) → length (m .tasks) ≤ t → m ≡ withMark m t g
 unfolding withMark
-mark-kept m t g e = sym (pick-true g m _ e)
-
-pub mark-past : (m : Marks) (t : ℕ) (g : Bool) → g ≡ false → length (m .lacking) ≤ t → m ≡ withMark m t g
-unfolding withMark
-mark-past m t g e h = let s : set (m .lacking) t true ≡ m .lacking = set-out (m .lacking) t true h in
-    sym (pick-false g m _ e ∙ λ i. record { lacking = s i })
-
-pub mark-set : (m : Marks) (t : ℕ) (g : Bool) → g ≡ false → _≡_ {A = Marks} (record { lacking = set (m .lacking) t true }) (withMark m t g)
-unfolding withMark
-mark-set m t g e = sym (pick-false g m _ e)
+mark-past m t g h = let s : set (m .tasks) t (markAt m t || not g) ≡ m .tasks = set-out (m .tasks) t (markAt m t || not g) h in
+    sym (λ i. record { tasks = s i })

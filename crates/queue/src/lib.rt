@@ -4,10 +4,15 @@ pub mod deq;
 pub mod enq;
 pub mod flags;
 pub mod lead;
+pub mod marks;
 
 use kinds::Name;
 use kinds::Slot;
 use kinds::TaskNumber;
+pub use marks::Marks;
+pub use marks::all_marks;
+use marks::marked;
+pub use marks::no_marks;
 ghost use mathlib.Core.Path.{_≡_};
 ghost use mathlib.Core.List.{[]};
 ghost use Prim.Native.Nat.{_≤_};
@@ -15,16 +20,11 @@ ghost use Rattle.kinds.specs.Limits.{mostEntries};
 ghost use Rattle.rules.specs.Rings.{bars as barsOf};
 ghost use Rattle.rules.specs.SoundQueue.{sameRequest, entriesOnce, entryNamesGood, queueFits};
 ghost use Rattle.queue.specs.Queues.{entryOf, stored, live, isFine, isZero, allFine, restZero, packedb};
-ghost use Rattle.queue.specs.Marking.{marksOf, withMark};
+ghost use Rattle.queue.specs.Marking.{marksAmong};
 
 pub struct Queue {
     pub slots: [Slot; Slot::PLACES],
     pub count: usize,
-}
-
-// For each task number, 0 to the highest: an entry of the task lacks control.
-pub struct Marks {
-    pub lacking: [bool; TaskNumber::PLACES + 1],
 }
 
 // The queue with no entry.
@@ -202,45 +202,31 @@ pub fn entry_names_good(q: Queue) -> bool
     true
 }
 
-// The marks, after an entry of the task that has control or lacks it.
-fn marked(m: Marks, t: TaskNumber, granted: bool) -> Marks
-    ensures { λ r. ⌜ r ≡ withMark m (t .0) granted ⌝ }
-{
-    if granted {
-        return m;
-    }
-    let k = t.0 as usize;
-    if TaskNumber::PLACES < k {
-        return m;
-    }
-    let mut r = m;
-    r.lacking[k] = true;
-    r
-}
-
-// Which tasks lack control: each entry is tested behind those before it, until one bars it.
-pub fn lacking(q: Queue) -> Marks
+// Which of the tasks that are marked lack control: each of their entries is tested behind those before it, until one bars it.
+// Whoever is found to lack control is not looked at again.
+pub fn lacking(q: Queue, among: Marks) -> Marks
     requires { ⌜ q .count ≤ mostEntries ⌝ }
-    ensures { λ r. ⌜ r ≡ marksOf (live q) ⌝ }
+    ensures { λ r. ⌜ r ≡ marksAmong among (live q) ⌝ }
 {
     let n = q.count;
-    let mut m = Marks {
-        lacking: [false; TaskNumber::PLACES + 1],
-    };
+    let mut found = no_marks();
     let mut i = 0;
     while i < n {
         let x = q.slots[i];
+        let t = x.task;
+        let named = among.has(t);
+        let done = found.has(t);
+        let sought = named & !done;
         let mut free = true;
         let mut j = 0;
-        while (j < i) & free {
+        while (j < i) & sought & free {
             let y = q.slots[j];
             let b = bars(y, x);
             free = !b;
             j += 1;
         }
-        let t = x.task;
-        m = marked(m, t, free);
+        found = marked(found, t, free);
         i += 1;
     }
-    m
+    found
 }

@@ -1,4 +1,6 @@
 // What the queue and the task table have to say of each other.
+pub mod ending;
+
 use family::Family;
 use kinds::Task;
 use kinds::TaskNumber;

@@ -9,3 +9,4 @@ pub mod Filled
 pub mod Flagged
 pub mod Coded
 pub mod Soles
+pub mod Sweeps

@@ -1,0 +1,28 @@
+// What an ending takes from the queue.
+use family::Family;
+use queue::Queue;
+ghost use mathlib.Core.Path.{_≡_};
+ghost use Rattle.lists.specs.Lists.{keep};
+ghost use Rattle.rules.specs.Ending.{entryStays};
+ghost use Rattle.queue.specs.Queues.{live, stored, Packed};
+
+// The queue without the entries of tasks that are not live. What stays is stored here: a call would copy the queue.
+pub fn sweep(q: Queue, f: Family) -> Queue
+    requires { ⌜ Packed q ⌝ }
+    ensures { λ r. ⌜ r ≡ stored (keep (entryStays (f .places)) (live q)) ⌝ }
+{
+    let n = q.count;
+    let mut r = queue::empty();
+    let mut i = 0;
+    while i < n {
+        let x = q.slots[i];
+        let t = x.task;
+        if family::is_live(f, t) {
+            let at = r.count;
+            r.slots[at] = x;
+            r.count = at + 1;
+        }
+        i += 1;
+    }
+    r
+}

@@ -1,5 +1,6 @@
 // What the queue and the task table have to say of each other.
 pub mod ending;
+pub mod waking;
 
 use family::Family;
 use kinds::Task;

@@ -1,4 +1,6 @@
 // A post: the event control blocks and the tasks that wait for them.
+pub mod ending;
+
 use events::Events;
 use family::Family;
 use kinds::Condition;

@@ -1,0 +1,87 @@
+use Prim.Native.Nat.{ℕ, _+_, _≤_, _-_}
+use mathlib.Core.Path.{_≡_, refl, ap, _∙_}
+use mathlib.Core.List.{List}
+use native.Mathlib.Omega.{arith}
+use borrow.Author.Needs.{needs}
+use lib.ListN.{length, getD, set, length-set}
+use Rattle.lists.specs.Numbered.{mapAt-plain, upTo, upTo-next, upTo-end}
+use Rattle.lists.specs.Arrays.{mapped-length}
+use Rattle.kinds.specs.Limits.{allEcbs}
+use Rattle.kinds.specs.Ecbs.{noEcb}
+use Rattle.kinds.specs.declared.ecbs.Ecb.{Ecb}
+use Rattle.rules.specs.Ending.{waiterStays}
+use Rattle.events.specs.Blocks.{eventsOf}
+use Rattle.family.specs.declared.Family.{Family}
+use Rattle.signals.proofs.ending.sweep.Statement.{statement}
+use Rattle.signals.proofs.ending.sweep.Tie as tie
+
+-- whatever its number
+abbrev stays : Family → ℕ → Ecb → Ecb
+stays f n x = waiterStays (f .places) x
+
+abbrev Inv-loop : tie.InvT-loop
+Inv-loop f r₀ i₀ r i = (i ≤ allEcbs) × (length (r₀ .ecbs) ≡ allEcbs) × (length (r .ecbs) ≡ allEcbs) × (r .ecbs ≡ upTo (stays f) 0 i (r₀ .ecbs))
+
+abbrev μ-loop : tie.MeasureT-loop
+μ-loop f r₀ i₀ r i = allEcbs - i
+
+loop-holds : tie.Need-loop-holds Inv-loop μ-loop
+loop-holds c = (omega arith, search (needs, mapped-length), search (needs, mapped-length), refl)
+
+mul-x : tie.Need-mul-x Inv-loop μ-loop
+mul-x c = omega arith
+
+element-copy-out-x : tie.Need-element-copy-out-x Inv-loop μ-loop
+element-copy-out-x c = omega arith
+
+waiter-stays-requires : tie.Need-waiter-stays-requires Inv-loop μ-loop
+waiter-stays-requires c κs = search needs
+
+mul-y : tie.Need-mul-y Inv-loop μ-loop
+mul-y c = omega arith
+
+element-set-from-y : tie.Need-element-set-from-y Inv-loop μ-loop
+element-set-from-y c = omega arith
+
+add-i : tie.Need-add-i Inv-loop μ-loop
+add-i c = omega arith
+
+loop-less : tie.Need-loop-less Inv-loop μ-loop
+loop-less c = omega arith
+
+loop-again : tie.Need-loop-again Inv-loop μ-loop
+loop-again c =
+    let l = (c .before .before .before .loop) in
+    let f = (c .before .before .before .before .args) .f in
+    let y = (c .waiter-stays) .result in
+    let n : l .i ≡ 0 + l .i = omega arith in (
+      omega arith,
+      omega arith,
+      omega (arith, length-set (l .r .ecbs) (l .i) y),
+      ap (λ (es : List Ecb). set es (l .i) y) (l .inv .3)
+          ∙ upTo-next (stays f) 0 (l .i) (l .i) ((c .before .before .before .before .args) .e .ecbs) noEcb y (omega arith) n
+          ((c .waiter-stays) .ensures ∙ ap (λ (es : List Ecb). waiterStays (f .places) (getD es (l .i) noEcb)) (l .inv .3)),
+    )
+
+returns : tie.Need-returns Inv-loop μ-loop
+returns c =
+    let l = (c .before .loop) in
+    let f = (c .before .before .args) .f in
+    ap eventsOf (l .inv .3 ∙ upTo-end (stays f) 0 (l .i) ((c .before .before .args) .e .ecbs) (omega arith) ∙ mapAt-plain (waiterStays (f .places)) 0 ((c .before .before .args) .e .ecbs))
+
+pub sweep-spec : {M : Type 1} → statement M
+sweep-spec =
+    tie.close
+    (tie.spec
+    Inv-loop
+    μ-loop
+    loop-holds
+    mul-x
+    element-copy-out-x
+    waiter-stays-requires
+    mul-y
+    element-set-from-y
+    add-i
+    loop-less
+    loop-again
+    returns)

@@ -1,0 +1,20 @@
+use mathlib.Core.Path.{sym, _∙_}
+use Rattle.lists.specs.Pick.{pick-true, pick-false}
+use Rattle.rules.specs.Ending.{waiterStays}
+use borrow.Author.Needs.{needs}
+use Rattle.signals.proofs.ending.waiter_stays.Statement.{statement}
+use Rattle.signals.proofs.ending.waiter_stays.Tie as tie
+
+is-live-requires : tie.Need-is-live-requires
+is-live-requires c κs = search needs
+
+returns : tie.Need-returns
+unfolding waiterStays
+returns c = sym (pick-true _ _ _ (sym ((c .before .is-live) .ensures) ∙ (c .if1) .taken))
+
+returns-2 : tie.Need-returns-2
+unfolding waiterStays
+returns-2 c = sym (pick-false _ _ _ (sym ((c .before .is-live) .ensures) ∙ (c .if1) .left))
+
+pub waiter-stays-spec : {M : Type 1} → statement M
+waiter-stays-spec = tie.close (tie.spec is-live-requires returns returns-2)

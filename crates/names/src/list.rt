@@ -3,6 +3,7 @@ use crate::is_legal;
 use crate::same_name;
 use kinds::NameList;
 use kinds::Ret;
+use kinds::Wanted;
 ghost use mathlib.Core.Path.{_≡_};
 ghost use mathlib.Core.Bool.{not};
 ghost use Prim.Native.Nat.{_≤_};
@@ -10,7 +11,7 @@ ghost use Rattle.lists.specs.Lists.{every, some, distinct};
 ghost use Rattle.kinds.specs.Limits.{longestList};
 ghost use Rattle.rules.specs.Names.{Ask, sameName, legal, namesOf, namesGood};
 ghost use Rattle.rules.specs.Enq.{asksShared};
-ghost use Rattle.names.specs.Named.{namesIn};
+ghost use Rattle.names.specs.Named.{wantedName, namesIn};
 
 fn all_legal(l: NameList) -> bool
     requires { ⌜ l .count ≤ longestList ⌝ }
@@ -29,6 +30,15 @@ fn all_legal(l: NameList) -> bool
     true
 }
 
+// Two of a list ask for one name, in whatever modes.
+fn same_wanted(v: Wanted, w: Wanted) -> bool
+    ensures { λ r. ⌜ r ≡ sameName (wantedName v) (wantedName w) ⌝ }
+{
+    let a = v.name;
+    let b = w.name;
+    same_name(a, b)
+}
+
 // Each name against those behind it.
 fn all_once(l: NameList) -> bool
     requires { ⌜ l .count ≤ longestList ⌝ }
@@ -38,13 +48,11 @@ fn all_once(l: NameList) -> bool
     let mut i = 0;
     while i < n {
         let v = l.names[i];
-        let a = v.name;
         i += 1;
         let mut j = i;
         while j < n {
             let w = l.names[j];
-            let b = w.name;
-            if same_name(a, b) {
+            if same_wanted(v, w) {
                 return false;
             }
             j += 1;

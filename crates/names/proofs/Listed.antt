@@ -2,18 +2,24 @@
 use mathlib.Core.Path.{_≡_, sym, ap, _∙_}
 use mathlib.Core.Bool.{true}
 use mathlib.Core.List.{map, map-map}
-use Prim.Native.Nat.{ℕ, _≤_}
-use lib.Dec.{ltb, leb}
-use lib.ListN.{take}
+use Prim.Native.Nat.{ℕ, _≤_, _<_}
+use native.Mathlib.Omega.{arith}
+use lib.Dec.{eqb, ltb, leb}
+use lib.ListN.{length, getD, take, length-map, List·getD-map}
+use lib.Seq.{getD-take, length-take-le}
 use borrow.Author.Tests.{leb-true}
 use Rattle.lists.specs.Lists.{every}
 use Rattle.lists.specs.Keeping.{take-map}
+use Rattle.lists.specs.Setting.{every-at}
+use Rattle.lists.specs.Bools.{both}
 use Rattle.lists.specs.Pick.{chain-and, chain-not}
-use Rattle.kinds.specs.Limits.{longestList}
+use Rattle.kinds.specs.Limits.{longestList, longestMinor, majorBytes}
 use Rattle.kinds.specs.Ranges.{between, countGood}
+use Rattle.kinds.specs.declared.names.Wanted.{Wanted}
 use Rattle.kinds.specs.declared.names.NameList.{NameList}
-use Rattle.rules.specs.Names.{Names, legal, nameOf, namesOf, namesGood}
+use Rattle.rules.specs.Names.{Resource, Names, legal, nameOf, namesOf, namesGood}
 use Rattle.names.specs.Named.{askOf, wantedName, namesIn}
+use Rattle.names.proofs.Shown.{shown-length}
 
 pub listed : (l : NameList) → namesOf (namesIn l) ≡ take (l .count) (map wantedName (l .names))
 listed l = sym (take-map nameOf (l .count) (map askOf (l .names))) ∙ ap (take (l .count)) (map-map nameOf askOf (l .names))
@@ -31,3 +37,22 @@ good-count l h = count-few (l .count) (chain-and (countGood (l .count)) _ h .0)
 pub good-legal : (l : Names) → namesGood l ≡ true → every legal (namesOf l) ≡ true
 unfolding namesGood
 good-legal l h = chain-and (every legal (namesOf l)) _ (chain-and (countGood (l .count)) _ h .1) .0
+
+-- a legal name's minor part is within its array
+pub legal-short : (n : Resource) → legal n ≡ true → length (n .minor) ≤ longestMinor
+unfolding legal between
+legal-short n h =
+    leb-true (length (n .minor)) longestMinor
+    (chain-not (ltb (length (n .minor)) 1) (leb (length (n .minor)) longestMinor) (both (eqb (length (n .major)) majorBytes) _ h .1) .1)
+
+pub name-short : (l : NameList) (i : ℕ) (d : Wanted) → i < l .count → l .count ≤ length (l .names) → every legal (namesOf (namesIn l)) ≡ true
+    → getD (l .names) i d .name .length ≤ longestMinor
+name-short l i d h k e =
+    let few : l .count ≤ length (map wantedName (l .names)) = rw (length-map (l .names) wantedName) k in
+    let s : legal (getD (take (l .count) (map wantedName (l .names))) i (wantedName d)) ≡ true =
+    every-at legal (take (l .count) (map wantedName (l .names))) i (wantedName d) (ap (every legal) (sym (listed l)) ∙ e)
+    (rw (length-take-le (l .count) (map wantedName (l .names)) few) h) in
+    let g : getD (take (l .count) (map wantedName (l .names))) i (wantedName d) ≡ wantedName (getD (l .names) i d) =
+    getD-take (l .count) (map wantedName (l .names)) i (wantedName d) h ∙ List·getD-map wantedName (l .names) i d in
+    let m : length (wantedName (getD (l .names) i d) .minor) ≤ longestMinor = legal-short (wantedName (getD (l .names) i d)) (ap legal (sym g) ∙ s) in
+    omega (arith, shown-length (getD (l .names) i d .name .length) (getD (l .names) i d .name .minor))

@@ -20,12 +20,12 @@ resourceOf n = record { major = n .major; minor = shown (n .length) (n .minor) }
 abbrev pub kept : Resource → Name
 kept n = record { major = n .major; minor = padded longestMinor 0 (n .minor); length = length (n .minor) }
 
-abbrev pub askOf : Wanted → Ask
-askOf w = record { exclusive = w .exclusive; name = resourceOf (w .name) }
-
 -- the name that is asked for
 abbrev pub wantedName : Wanted → Resource
 wantedName w = resourceOf (w .name)
+
+abbrev pub askOf : Wanted → Ask
+askOf w = record { exclusive = w .exclusive; name = wantedName w }
 
 -- the names within the count
 abbrev pub namesIn : NameList → Names

@@ -5,24 +5,20 @@ use mathlib.Core.List.{List, map}
 use Prim.Native.Nat.{ℕ, _+_, _≤_, _<_}
 use native.Mathlib.Omega.{arith}
 use lib.Dec.{eqb, ltb}
-use lib.ListN.{length, getD, take, length-map, List·getD-map}
-use lib.Seq.{slice, getD-take, length-take-le}
+use lib.ListN.{length, getD}
+use lib.Seq.{slice}
 use borrow.Author.Tests.{ltb-true, ltb-false, not-true}
-use Rattle.lists.specs.Lists.{every, some}
+use Rattle.lists.specs.Lists.{some}
 use Rattle.lists.specs.Every.{slice-view, some-end}
-use Rattle.lists.specs.Setting.{every-at}
 use Rattle.lists.specs.Bools.{both}
-use Rattle.kinds.specs.Limits.{longestMinor}
 use Rattle.kinds.specs.declared.names.Slot.{Slot}
 use Rattle.kinds.specs.declared.names.Wanted.{Wanted}
 use Rattle.kinds.specs.declared.names.NameList.{NameList}
 use Rattle.names.specs.Named.{resourceOf, wantedName, namesIn}
 use Rattle.names.proofs.Listed.{listed}
-use Rattle.names.proofs.Shown.{shown-length}
-use Rattle.rules.specs.Names.{Resource, sameName, legal, namesOf}
+use Rattle.rules.specs.Names.{Resource, sameName, namesOf}
 use Rattle.rules.specs.Control.{isForOne}
 use Rattle.queue.specs.Queues.{entryOf}
-use Rattle.queue.proofs.Passes.{legal-short}
 
 -- found, or of the task and still to be found from place j on
 pub record Looking (t : ℕ) (l : NameList) (x : Slot) (mine found : Bool) (j : ℕ) : Type 0 where
@@ -65,16 +61,3 @@ module _ {t : ℕ} {l : NameList} {x : Slot} where
   pub look-end : {mine found : Bool} {j : ℕ} → Looking t l x mine found j → ((mine && ltb j (l .count)) && not found) ≡ false → j ≤ l .count
       → isForOne t (namesOf (namesIn l)) (entryOf x) ≡ found
   look-end {mine} {found} {j} = over mine found j
-
--- a legal name's minor part is within its array
-pub name-short : (l : NameList) (i : ℕ) (d : Wanted) → i < l .count → l .count ≤ length (l .names) → every legal (namesOf (namesIn l)) ≡ true
-    → getD (l .names) i d .name .length ≤ longestMinor
-name-short l i d h k e =
-    let few : l .count ≤ length (map wantedName (l .names)) = rw (length-map (l .names) wantedName) k in
-    let s : legal (getD (take (l .count) (map wantedName (l .names))) i (wantedName d)) ≡ true =
-    every-at legal (take (l .count) (map wantedName (l .names))) i (wantedName d) (ap (every legal) (sym (listed l)) ∙ e)
-    (rw (length-take-le (l .count) (map wantedName (l .names)) few) h) in
-    let g : getD (take (l .count) (map wantedName (l .names))) i (wantedName d) ≡ wantedName (getD (l .names) i d) =
-    getD-take (l .count) (map wantedName (l .names)) i (wantedName d) h ∙ List·getD-map wantedName (l .names) i d in
-    let m : length (wantedName (getD (l .names) i d) .minor) ≤ longestMinor = legal-short (wantedName (getD (l .names) i d)) (ap legal (sym g) ∙ s) in
-    omega (arith, shown-length (getD (l .names) i d .name .length) (getD (l .names) i d .name .minor))

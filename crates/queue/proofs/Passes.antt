@@ -3,26 +3,20 @@ use mathlib.Core.Path.{_≡_, refl, ap, _∙_}
 use mathlib.Core.Bool.{true, false}
 use mathlib.Core.List.{List, [], _∷_, map}
 use Prim.Native.Nat.{_-_, _≤_}
-use lib.Dec.{eqb, ltb, leb}
+use lib.Dec.{eqb, ltb}
 use lib.ListN.{length, take, drop, length-map}
-use borrow.Author.Tests.{le-ltb, eq-eqb, leb-true}
-use Rattle.lists.specs.Pick.{pick-false, chain-not}
+use borrow.Author.Tests.{le-ltb, eq-eqb}
+use Rattle.lists.specs.Pick.{pick-false}
 use Rattle.lists.specs.Lists.{every}
 use Rattle.lists.specs.Bools.{both, join}
 use Rattle.lists.specs.Tables.{padded, padded-length, padded-take, padded-drop, every-replicate}
-use Rattle.kinds.specs.Limits.{mostEntries, longestMinor, majorBytes}
-use Rattle.kinds.specs.Ranges.{between}
+use Rattle.kinds.specs.Limits.{mostEntries, longestMinor}
 use Rattle.kinds.specs.declared.names.Slot.{Slot}
-use Rattle.rules.specs.Names.{Resource, legal}
+use Rattle.names.proofs.Listed.{legal-short}
+use Rattle.rules.specs.Names.{legal}
 use Rattle.rules.specs.Control.{Entry}
 use Rattle.rules.specs.SoundQueue.{entryNamesGood}
 use Rattle.queue.specs.Queues.{slotOf, zeroSlot, rowsOf, stored, isFine, isZero, allFine, restZero, packedb}
-
-pub legal-short : (n : Resource) → legal n ≡ true → length (n .minor) ≤ longestMinor
-unfolding legal between
-legal-short n h =
-    leb-true (length (n .minor)) longestMinor
-    (chain-not (ltb (length (n .minor)) 1) (leb (length (n .minor)) longestMinor) (both (eqb (length (n .major)) majorBytes) _ h .1) .1)
 
 fine-slot : (e : Entry) → legal (e .name) ≡ true → isFine (slotOf e) ≡ true
 unfolding isFine

@@ -7,7 +7,7 @@ use Rattle.lists.specs.Arrays.{mapped-length}
 use Rattle.kinds.specs.Limits.{mostEntries, longestList}
 use Rattle.queue.specs.Queues.{stored, Packed}
 use Rattle.queue.proofs.Builds.{tailed, none-yet, tail-room, tail-full, queued}
-use Rattle.queue.proofs.Looking.{name-short}
+use Rattle.names.proofs.Listed.{name-short}
 use Rattle.queue.proofs.enq.with_tail.Statement.{statement}
 use Rattle.queue.proofs.enq.with_tail.Tie as tie
 

@@ -49,6 +49,16 @@ module _ {A B : Type 0} (view : A → B) (l : List A) (i n : ℕ) (d : A) (h : i
   pub any-later : (f : B → Bool) → f (view (getD l i d)) ≡ false → some f (slice i n (map view l)) ≡ some f (slice (i + 1) n (map view l))
   any-later f e = ap (some f) slice-view ∙ rw e
 
+-- a test of what a function gives of each element
+module _ {A B : Type 0} (g : A → B) (f : B → Bool) where
+  pub every-of : (l : List A) → every f (map g l) ≡ every (λ (x : A). f (g x)) l
+  every-of [] = refl
+  every-of (x ∷ l) = ap (λ (b : Bool). f (g x) && b) (every-of l)
+
+  pub some-of : (l : List A) → some f (map g l) ≡ some (λ (x : A). f (g x)) l
+  some-of [] = refl
+  some-of (x ∷ l) = ap (λ (b : Bool). f (g x) || b) (some-of l)
+
 -- the same where the array's own elements are tested
 module _ {A : Type 0} (f : A → Bool) (i n : ℕ) (l : List A) where
   pub every-fails : (d : A) → i < n → n ≤ length l → f (getD l i d) ≡ false → every f (slice i n l) ≡ false

@@ -6,10 +6,11 @@ use Prim.Native.Nat.{ℕ, _+_, _≤_, _<_}
 use native.Mathlib.Omega.{arith}
 use lib.Dec.{ltb}
 use lib.ListN.{length, getD, take, length-map, List·getD-map}
-use lib.Seq.{slice, slice-empty}
+use lib.Seq.{slice, slice-empty, length-take-le}
 use borrow.Author.Tests.{ltb-false}
-use Rattle.lists.specs.Lists.{some}
-use Rattle.lists.specs.Every.{slice-view}
+use Rattle.lists.specs.Lists.{every, some}
+use Rattle.lists.specs.Tables.{padded, padded-take}
+use Rattle.lists.specs.Every.{slice-view, every-of, some-of}
 use Rattle.lists.specs.Filling.{filled-at}
 use Rattle.kinds.specs.Limits.{longestList}
 use Rattle.kinds.specs.declared.names.Slot.{Slot}
@@ -19,9 +20,13 @@ use Rattle.names.specs.Named.{askOf, namesIn}
 use Rattle.rules.specs.Names.{Ask}
 use Rattle.rules.specs.Control.{Entry, control, available}
 use Rattle.queue.specs.Queues.{entryOf}
-use Rattle.queue.specs.Flagging.{flagsOf}
+use Rattle.queue.specs.Flagging.{flagsOf, someSet, allSet}
 use Rattle.queue.proofs.Filled.{Filled, filled-all}
 use Rattle.queue.specs.declared.flags.Flags.{Flags}
+
+-- the names within the count are as many as it says
+pub asks-length : (l : NameList) → l .count ≤ length (l .names) → length (namesIn l .asks) ≡ l .count
+asks-length l h = length-take-le (l .count) (map askOf (l .names)) (rw (length-map (l .names) askOf) h)
 
 pub flags-are : (f : Ask → Bool) (l : NameList) (i : ℕ) (r : Flags) → i ≡ l .count → Filled false f (map askOf (l .names)) i (r .of) → r ≡ flagsOf f (namesIn l)
 unfolding flagsOf
@@ -63,3 +68,19 @@ module _ (f : Entry → Bool) (es : List Slot) (n : ℕ) where
       let m : n ≤ j = ltb-false j n (sym (and-true (ltb j n)) ∙ k) in
       let i : j ≡ n = omega arith in
       v ∙ rw i (ap (some f) (slice-empty n (map entryOf es)))
+
+-- the flags of all names
+flags-taken : (f : Ask → Bool) (l : NameList) (r : Flags) → r ≡ flagsOf f (namesIn l) → l .count ≤ length (l .names) → take (l .count) (r .of) ≡ map f (namesIn l .asks)
+unfolding flagsOf
+flags-taken f l r e h =
+    ap (λ (x : Flags). take (l .count) (x .of)) e
+    ∙ ap (λ (k : ℕ). take k (padded longestList false (map f (namesIn l .asks)))) (sym (length-map (namesIn l .asks) f ∙ asks-length l h))
+    ∙ padded-take longestList false (map f (namesIn l .asks))
+
+pub some-flag : (f : Ask → Bool) (l : NameList) (r : Flags) → r ≡ flagsOf f (namesIn l) → l .count ≤ length (l .names) → someSet r (l .count) ≡ some f (namesIn l .asks)
+unfolding someSet
+some-flag f l r e h = ap (some (λ (b : Bool). b)) (flags-taken f l r e h) ∙ some-of f (λ (b : Bool). b) (namesIn l .asks)
+
+pub every-flag : (f : Ask → Bool) (l : NameList) (r : Flags) → r ≡ flagsOf f (namesIn l) → l .count ≤ length (l .names) → allSet r (l .count) ≡ every f (namesIn l .asks)
+unfolding allSet
+every-flag f l r e h = ap (every (λ (b : Bool). b)) (flags-taken f l r e h) ∙ every-of f (λ (b : Bool). b) (namesIn l .asks)

@@ -10,3 +10,7 @@ pub mod Flagged
 pub mod Coded
 pub mod Soles
 pub mod Sweeps
+pub mod Judged
+pub mod Builds
+pub mod Looking
+pub mod Exclusive

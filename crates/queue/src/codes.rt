@@ -13,14 +13,36 @@ ghost use lib.ListN.{length, take};
 ghost use Rattle.kinds.specs.Limits.{mostEntries, longestList};
 ghost use Rattle.names.specs.Named.{namesIn};
 ghost use Rattle.rules.specs.Codes.{allZero, writtenOn};
-ghost use Rattle.rules.specs.Enq.{enqCodes};
-ghost use Rattle.rules.specs.Deq.{deqCodes};
+ghost use Rattle.rules.specs.Enq.{enqCodes, enqCodesDue};
+ghost use Rattle.rules.specs.Deq.{deqCodes, deqCodesDue};
 ghost use Rattle.queue.specs.Queues.{live};
 ghost use Rattle.queue.specs.Coding.{codesOf, queuingCode, changeCode, releaseCode, enqCodeBy, deqCodeBy};
 
 // Zero past the count.
 pub struct Codes {
     pub bytes: [u8; NameList::MOST],
+}
+
+// Codes are due of all but NONE.
+pub fn enq_codes_due(ret: Ret) -> bool
+    ensures { λ r. ⌜ r ≡ enqCodesDue ret ⌝ }
+{
+    match ret {
+        Ret::None => false,
+        Ret::Test => true,
+        Ret::Use => true,
+        Ret::Have => true,
+        Ret::Chng => true,
+    }
+}
+
+pub fn deq_codes_due(ret: DeqRet) -> bool
+    ensures { λ r. ⌜ r ≡ deqCodesDue ret ⌝ }
+{
+    match ret {
+        DeqRet::None => false,
+        DeqRet::Have => true,
+    }
 }
 
 // 8 goes before 4.

@@ -11,11 +11,45 @@ ghost use Rattle.names.specs.Named.{resourceOf, namesIn};
 ghost use Rattle.rules.specs.Names.{Ask};
 ghost use Rattle.rules.specs.Control.{isFor, hasEntry, available as availableIn};
 ghost use Rattle.queue.specs.Queues.{entryOf, live};
-ghost use Rattle.queue.specs.Flagging.{flagsOf};
+ghost use Rattle.queue.specs.Flagging.{flagsOf, someSet, allSet};
 
 // One flag for each name beside a request, false past the count.
 pub struct Flags {
     pub of: [bool; NameList::MOST],
+}
+
+// One of the first n flags is set.
+pub fn some_set(f: Flags, n: u32) -> bool
+    requires { ⌜ n ≤ longestList ⌝ }
+    ensures { λ r. ⌜ r ≡ someSet f n ⌝ }
+{
+    let m = n as usize;
+    let mut i = 0;
+    while i < m {
+        let b = f.of[i];
+        if b {
+            return true;
+        }
+        i += 1;
+    }
+    false
+}
+
+// All of the first n flags are set.
+pub fn all_set(f: Flags, n: u32) -> bool
+    requires { ⌜ n ≤ longestList ⌝ }
+    ensures { λ r. ⌜ r ≡ allSet f n ⌝ }
+{
+    let m = n as usize;
+    let mut i = 0;
+    while i < m {
+        let b = f.of[i];
+        if !b {
+            return false;
+        }
+        i += 1;
+    }
+    true
 }
 
 // The entry is the task's, for that name.

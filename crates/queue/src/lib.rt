@@ -5,6 +5,7 @@ pub mod enq;
 pub mod flags;
 pub mod lead;
 pub mod marks;
+pub mod verdict;
 
 use kinds::Name;
 use kinds::Slot;

@@ -165,9 +165,9 @@ pub fn write(k: Codes, n: u32, area: &mut [u8])
     requires { ⌜ (n ≤ longestList) × (n ≤ length (now area)) ⌝ }
     ensures { λ _. ⌜ now (area .exit) ≡ writtenOn (take n (k .bytes)) (now (area .entry)) ⌝ }
 {
-    let m = n as usize;
+    let count = n as usize;
     let mut i = 0;
-    while i < m {
+    while i < count {
         let b = k.bytes[i];
         area[i] = b;
         i += 1;

@@ -11,10 +11,10 @@ use Rattle.queue.proofs.codes.write.Statement.{statement}
 use Rattle.queue.proofs.codes.write.Tie as tie
 
 abbrev Inv-loop : tie.InvT-loop
-Inv-loop n area₀ k m i₀ area i = (i ≤ n) × (n ≤ longestList) × (n ≤ length area₀) × (length (k .bytes) ≡ longestList) × (length area ≡ length area₀) × (area ≡ take i (k .bytes) ++ drop i area₀)
+Inv-loop n area₀ k count i₀ area i = (i ≤ n) × (n ≤ longestList) × (n ≤ length area₀) × (length (k .bytes) ≡ longestList) × (length area ≡ length area₀) × (area ≡ take i (k .bytes) ++ drop i area₀)
 
 abbrev μ-loop : tie.MeasureT-loop
-μ-loop n area₀ k m i₀ area i = n - i
+μ-loop n area₀ k count i₀ area i = n - i
 
 loop-holds : tie.Need-loop-holds Inv-loop μ-loop
 loop-holds c = (omega arith, omega arith, omega arith, search needs, refl, refl)

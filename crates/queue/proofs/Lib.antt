@@ -11,6 +11,3 @@ pub mod Coded
 pub mod Soles
 pub mod Sweeps
 pub mod Judged
-pub mod Builds
-pub mod Looking
-pub mod Exclusive

@@ -1,7 +1,7 @@
 use mathlib.Core.List.{map}
-use mathlib.Core.Bool.{false}
+use mathlib.Core.Bool.{true, false, _&&_, and-true}
 use Prim.Native.Nat.{_≤_, _<_, _-_}
-use mathlib.Core.Path.{_≡_, _∙_}
+use mathlib.Core.Path.{_≡_, refl, ap, _∙_}
 use native.Mathlib.Omega.{arith}
 use borrow.Author.Needs.{needs}
 use borrow.Author.Tests.{ltb-true}
@@ -20,7 +20,7 @@ use Rattle.queue.proofs.flags.available.Statement.{statement}
 use Rattle.queue.proofs.flags.available.Tie as tie
 
 abbrev Inv-loop2 : tie.InvT-loop2
-Inv-loop2 q l n m r i e free₀ j₀ free j = (j ≤ n) × (n ≤ mostEntries) × (length (q .slots) ≡ mostEntries) × Seeking (q .slots) (entryOf e) n j free
+Inv-loop2 q l n m r i e free₀ j₀ free j = (j ≤ n) × (n ≤ mostEntries) × (length (q .slots) ≡ mostEntries) × Seeking (q .slots) (entryOf e) n true j free
 
 abbrev μ-loop2 : tie.MeasureT-loop2
 μ-loop2 q l n m r i e free₀ j₀ free j = n - j
@@ -44,7 +44,7 @@ element-copy-out-w : tie.Need-element-copy-out-w Inv-loop2 μ-loop2 Inv-loop μ-
 element-copy-out-w c = omega arith
 
 loop2-holds : tie.Need-loop2-holds Inv-loop2 μ-loop2 Inv-loop μ-loop
-loop2-holds c = (omega arith, omega arith, omega arith, seek-start _ _ _)
+loop2-holds c = (omega arith, omega arith, omega arith, seek-start _ _ _ true)
 
 mul-x : tie.Need-mul-x Inv-loop2 μ-loop2 Inv-loop μ-loop
 mul-x c = let h : (c .before .loop2) .j < (c .before .before .before .before .before .before .args) .t1 .count = ltb-true ((c .before .loop2) .j) ((c .before .before .before .before .before .before .args) .t1 .count) (and-left (ltb ((c .before .loop2) .j) ((c .before .before .before .before .before .before .args) .t1 .count)) ((c .before .loop2) .free) ((c .loop2-test) .taken)) in omega arith
@@ -67,7 +67,7 @@ loop2-again c =
       omega arith,
       omega arith,
       omega arith,
-      seek-next ((c .before .before .before .before .before .before .before .before .args) .t1 .slots) _ ((c .before .before .before .before .before .before .before .before .args) .t1 .count) ((c .before .before .before .loop2) .j) _ ((c .before .before .before .loop2) .free) _ h (omega arith) (and-right (ltb ((c .before .before .before .loop2) .j) ((c .before .before .before .before .before .before .before .before .args) .t1 .count)) ((c .before .before .before .loop2) .free) ((c .before .before .loop2-test) .taken)) ((c .bars) .ensures) ((c .before .before .before .loop2) .inv .3),
+      seek-next ((c .before .before .before .before .before .before .before .before .args) .t1 .slots) _ ((c .before .before .before .before .before .before .before .before .args) .t1 .count) ((c .before .before .before .loop2) .j) _ true ((c .before .before .before .loop2) .free) _ h (omega arith) refl (and-right (ltb ((c .before .before .before .loop2) .j) ((c .before .before .before .before .before .before .before .before .args) .t1 .count)) ((c .before .before .before .loop2) .free) ((c .before .before .loop2-test) .taken)) ((c .bars) .ensures) ((c .before .before .before .loop2) .inv .3),
     )
 
 element-write-r : tie.Need-element-write-r Inv-loop2 μ-loop2 Inv-loop μ-loop
@@ -88,7 +88,7 @@ loop-again c = (
   omega arith,
   ask-next false (available (live ((c .before .before .before .before .before .before .args) .t1))) ((c .before .before .before .before .before .before .args) .t2 .names) ((c .before .before .before .before .before .loop) .i) _ ((c .before .before .before .before .before .loop) .r .of) ((c .before .loop2) .free) (omega arith) (omega arith)
       (tail-available (live ((c .before .before .before .before .before .before .args) .t1)) 0 _
-      ∙ seek-end ((c .before .before .before .before .before .before .args) .t1 .slots) _ ((c .before .before .before .before .before .before .args) .t1 .count) ((c .before .loop2) .j) ((c .before .loop2) .free) (omega arith) ((c .loop2-test) .left) ((c .before .loop2) .inv .3))
+      ∙ seek-end ((c .before .before .before .before .before .before .args) .t1 .slots) _ ((c .before .before .before .before .before .before .args) .t1 .count) ((c .before .loop2) .j) true ((c .before .loop2) .free) (omega arith) (ap (λ b. b && (c .before .loop2) .free) (and-true (ltb ((c .before .loop2) .j) ((c .before .before .before .before .before .before .args) .t1 .count))) ∙ (c .loop2-test) .left) ((c .before .loop2) .inv .3))
       ((c .before .before .before .before .before .loop) .inv .5),
 )
 

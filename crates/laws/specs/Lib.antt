@@ -16,6 +16,7 @@ pub mod Blocks
 pub mod Settling
 pub mod Requeuing
 pub mod Queueing
+pub mod Changing
 pub mod Leaving
 pub mod Endings
 pub mod Posts

@@ -58,7 +58,7 @@ tail-others t c q l d =
     ∙ or-false (lacks t q)
 
 -- an entry for another name bars nobody
-other-names : (done : List Entry) (e : Entry) → every (λ (x : Entry). not (sameName (x .name) (e .name))) done ≡ true → control done e ≡ true
+pub other-names : (done : List Entry) (e : Entry) → every (λ (x : Entry). not (sameName (x .name) (e .name))) done ≡ true → control done e ≡ true
 unfolding free bars
 other-names done e h =
     control-each done e

@@ -1,6 +1,6 @@
 -- A test of every element, or of some, along loops: over the places i to n - 1, over what they show, and to an array's end. Assumes nothing.
 use mathlib.Core.Path.{_≡_, refl, sym, ap, _∙_}
-use mathlib.Core.Bool.{Bool, true, false, _&&_, _||_, and-assoc, or-assoc}
+use mathlib.Core.Bool.{Bool, true, false, _&&_, _||_, and-assoc, and-false, or-assoc, false≢true}
 use mathlib.Core.List.{List, [], _∷_, _++_, map}
 use Prim.Native.Nat.{ℕ, _+_, _≤_, _<_}
 use native.Mathlib.Numerals.{add-one}
@@ -27,8 +27,22 @@ module _ {A : Type 0} where
   every-gives f g h [] e = refl
   every-gives f g h (x ∷ l) e = let b = both (f x) (every f l) e in join (g x) (every g l) (h x (b .0)) (every-gives f g h l (b .1))
 
+  -- one element that passes a test, and with it fails another
+  pub some-fails : (f g : A → Bool) → ((x : A) → f x ≡ true → g x ≡ false) → (l : List A) → some f l ≡ true → every g l ≡ false
+  some-fails f g h [] e = absurd (false≢true e)
+  some-fails f g h (x ∷ l) e = one (f x) refl e (some-fails f g h l)
+    where
+      one : (b : Bool) → f x ≡ b → (b || some f l) ≡ true → (some f l ≡ true → every g l ≡ false) → (g x && every g l) ≡ false
+      one true k u ih = rw (h x k)
+      one false k u ih = rw (ih u) (and-false (g x))
+
   pub slice-next : (i n : ℕ) (l : List A) (d : A) → i < n → n ≤ length l → slice i n l ≡ getD l i d ∷ slice (i + 1) n l
   slice-next i n l d h k = rw (add-one) (slice-cons i n l d h k)
+
+-- a test of every element of a changed list
+pub every-over : {A B : Type 0} (g : A → B) (f : B → Bool) (l : List A) → every f (map g l) ≡ every (λ (x : A). f (g x)) l
+every-over g f [] = refl
+every-over g f (x ∷ l) = ap (λ (b : Bool). f (g x) && b) (every-over g f l)
 
 -- over what the places i to n - 1 of an array show
 module _ {A B : Type 0} (view : A → B) (l : List A) (i n : ℕ) (d : A) (h : i < n) (k : n ≤ length l) where

@@ -24,4 +24,5 @@ pub mod Failing
 pub mod Admitted
 pub mod Kept
 pub mod KeptTasks
+pub mod Waiting
 pub mod Attaching

@@ -8,6 +8,7 @@ pub mod Keeping
 pub mod Changing
 pub mod Numbered
 pub mod Setting
+pub mod Counting
 pub mod Bytes
 pub mod Arrays
 pub mod Tables

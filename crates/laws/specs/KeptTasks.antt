@@ -1,4 +1,4 @@
--- END, ABEND and DETACH keep a sound step sound. Assumes nothing.
+-- END, ABEND and DETACH keep a sound step sound; a program error is an ABEND. Assumes nothing.
 use mathlib.Core.Path.{_≡_, refl, sym, ap, _∙_}
 use mathlib.Core.Bool.{Bool, true, false, not, _&&_, true≢false}
 use mathlib.Core.List.{List}
@@ -14,18 +14,22 @@ use Rattle.kinds.specs.Tasks.{isFree}
 use Rattle.kinds.specs.declared.numbers.TaskNumber.{TaskNumber}
 use Rattle.kinds.specs.declared.tasks.Task.{Task}
 use Rattle.kinds.specs.declared.replies.Refusal.the-variants.{OutOfRange}
+use Rattle.kinds.specs.Replies.{faultNumber}
+use Rattle.kinds.specs.declared.replies.Gate.the-variants.{Open}
+use Rattle.kinds.specs.declared.replies.Fault.{Fault}
 use Rattle.kinds.specs.declared.replies.Fault.the-variants.{HasSubtasks, NotSubtask}
 use Rattle.kinds.specs.declared.replies.Verdict.the-variants.{Go, Refuse, Fail}
 use Rattle.rules.specs.Family.{place, used, mother, isSubtaskOf, directSubtask, hasSubtasks}
 use Rattle.rules.specs.Steps.{Step, done, overStep}
-use Rattle.rules.specs.Ending.{ended, detached}
+use Rattle.rules.specs.Ending.{ended, detached, failing}
+use Rattle.rules.specs.Admission.{gateOf, through, settled}
 use Rattle.rules.specs.End.{endVerdict, endDone, endOf}
 use Rattle.rules.specs.Abend.{abendVerdict, abendDone, abendOf}
 use Rattle.rules.specs.Detach.{detachVerdict, detachDone, detachOf}
 use Rattle.laws.specs.Chains.{used-pos}
 use Rattle.laws.specs.Mothers.{no-mother}
 use Rattle.laws.specs.Running.{Running, running-whole}
-use Rattle.laws.specs.Failing.{Sound, over-sound, ended-sound, detached-running}
+use Rattle.laws.specs.Failing.{Sound, over-sound, fault-ends, ended-sound, detached-running}
 use Rattle.laws.specs.Admitted.{open-used, service-sound}
 
 -- END
@@ -89,3 +93,8 @@ detach-sound s c task h =
     (λ o r q. let d = detach-go (taskGood (task .0)) (directSubtask (s .tasks) (c .0) (task .0)) q in
     let u = open-used s c o in
     running-whole (detached s (task .0)) (detached-running s r (task .0) (subtask-used s r c (task .0) u d) (subtask-other s r c (task .0) u d)))
+
+-- A PROGRAM ERROR leaves what ABEND without STEP, with the error's number, leaves
+pub fails-as-abend : (s : Step) (c : TaskNumber) (what : Fault) → gateOf s c ≡ Open → failing what s c .tables ≡ abendOf s c (faultNumber what) false .tables
+unfolding failing abendVerdict abendDone through settled pick
+fails-as-abend s c what o = rw (o, fault-ends what)

@@ -17,6 +17,7 @@ pub mod Settling
 pub mod Requeuing
 pub mod Queueing
 pub mod Changing
+pub mod Areas
 pub mod Leaving
 pub mod Endings
 pub mod Posts
@@ -26,3 +27,6 @@ pub mod Kept
 pub mod KeptTasks
 pub mod Waiting
 pub mod Attaching
+pub mod Lowest
+pub mod Rooms
+pub mod KeptAreas

@@ -14,12 +14,14 @@ use Rattle.kinds.specs.declared.numbers.EcbNumber.{EcbNumber}
 use Rattle.kinds.specs.declared.numbers.TaskNumber.{TaskNumber}
 use Rattle.kinds.specs.declared.replies.Refusal.{Refusal}
 use Rattle.kinds.specs.declared.replies.Refusal.the-variants.{Unsound, OutOfRange, WaitBitOn}
+use Rattle.kinds.specs.declared.replies.Fault.{Fault}
 use Rattle.kinds.specs.declared.replies.Gate.{Gate}
 use Rattle.kinds.specs.declared.replies.Gate.the-variants.{Open, Shut}
 use Rattle.kinds.specs.declared.replies.Verdict.{Verdict}
 use Rattle.kinds.specs.declared.replies.Verdict.the-variants.{Go, Refuse, Fail}
 use Rattle.rules.specs.Steps.{Step, Outcome, refused, done, keptBy, withEcbs, overStep}
 use Rattle.rules.specs.Fresh.{freshStep, freshOf}
+use Rattle.rules.specs.Ending.{failing}
 use Rattle.rules.specs.Family.{place}
 use Rattle.rules.specs.Events.{ecbAt}
 use Rattle.rules.specs.Clear.{clearVerdict}
@@ -33,7 +35,9 @@ use Rattle.queue.specs.Queues.{live, packedb}
 use Rattle.queue.proofs.Views.{packed-kept as queue-kept}
 use Rattle.storage.specs.Stored.{live as liveAreas, packedb as packedAreas}
 use Rattle.storage.specs.Kept.{packed-kept as areas-kept}
-use Rattle.services.specs.Kept.{Packed, stepOf, tablesOf, withSignals, soundb, answered, gated}
+use Rattle.laws.specs.Running.{Running, running-parts}
+use Rattle.laws.specs.Admitted.{open-running}
+use Rattle.services.specs.Kept.{Packed, Admitted, stepOf, tablesOf, withSignals, soundb, answered, gated, gateAt}
 use Rattle.services.specs.declared.Tables.{Tables}
 
 -- SOUND TABLES KEEP THEIR STEP
@@ -110,6 +114,21 @@ module _ (t : Tables) (k : Step → Gate) where
     pub at-shut : (g : Gate) (why : Refusal) → g ≡ gated t k → g ≡ Shut why → s ≡ refused why t → s ≡ answered t (λ u. through (k u) u (o u))
     at-shut g why e h a = shut-is why (soundb t) refl (sym e ∙ h) a
 
+-- WHAT AN OPEN GATE GIVES
+
+pub gate-admits : (t : Tables) (c : TaskNumber) (g : Gate) → g ≡ gateAt t c → g ≡ Open → Admitted t c
+unfolding gated pick
+gate-admits t c g e h =
+    let b = open-sound t (λ u. gateOf u c) (soundb t) refl (sym e ∙ h) in
+    record { sound = b; gate = sym (gate-cases t (λ u. gateOf u c) true b) ∙ sym e ∙ h }
+
+module _ (t : Tables) (c : TaskNumber) (a : Admitted t c) where
+  pub admitted-packed : Packed t
+  admitted-packed = sound-packed t (a .sound)
+
+  pub admitted-running : Running (stepOf t)
+  admitted-running = running-parts (stepOf t) (sound-step t (a .sound)) (open-running (stepOf t) c (a .gate))
+
 -- THE VERDICT v
 
 module _ (t : Tables) (c : TaskNumber) (o : Outcome Step) (s : Outcome Tables) (v : Verdict) where
@@ -120,6 +139,10 @@ module _ (t : Tables) (c : TaskNumber) (o : Outcome Step) (s : Outcome Tables) (
   pub on-refuse : (why : Refusal) → v ≡ Refuse why → Packed t → s ≡ refused why t → s ≡ keptBy tablesOf (settled v (stepOf t) c o)
   unfolding settled
   on-refuse why h p a = rw h (a ∙ refused-kept t why p)
+
+  pub on-fail : (what : Fault) → v ≡ Fail what → s ≡ keptBy tablesOf (failing what (stepOf t) c) → s ≡ keptBy tablesOf (settled v (stepOf t) c o)
+  unfolding settled
+  on-fail what h a = rw h a
 
 -- THE TESTS OF THE TABLES, AND OF A CALLER
 

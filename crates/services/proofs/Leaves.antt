@@ -9,6 +9,7 @@ use Rattle.rules.specs.Control.{Entry}
 use Rattle.rules.specs.SoundTasks.{tasksFit, zeroTask}
 use Rattle.rules.specs.SoundEcbs.{ecbsFit, zeroEcb}
 use Prim.Native.Nat.{ℕ, _≤_}
+use lib.IntN.{ℤ}
 use lib.ListN.{length}
 use borrow.Author.Tests.{leb-true}
 use Rattle.lists.specs.Pick.{pick, pick-true}
@@ -16,16 +17,24 @@ use Rattle.lists.specs.Bools.{both}
 use Rattle.kinds.proofs.Once.{reply-once}
 use Rattle.kinds.specs.declared.numbers.TaskNumber.{TaskNumber}
 use Rattle.kinds.specs.declared.numbers.EcbNumber.{EcbNumber}
+use Rattle.kinds.specs.declared.tasks.MaybeEcb.{MaybeEcb}
 use Rattle.rules.specs.Steps.{Step, Outcome, keptBy}
 use Rattle.rules.specs.SoundQueue.{queueFits, entryNamesGood}
 use Rattle.rules.specs.SoundAreas.{areasFit}
 use Rattle.rules.specs.Sound.{overGood, runningGood, soundStep}
+use Rattle.rules.specs.Attach.{attachOf}
+use Rattle.rules.specs.Detach.{detachOf}
+use Rattle.rules.specs.End.{endOf}
+use Rattle.rules.specs.Abend.{abendOf}
 use Rattle.rules.specs.Clear.{clearOf}
 use Rattle.rules.specs.Post.{postOf}
 use Rattle.rules.specs.Dispatch.{dispatchOf}
 use Rattle.rules.specs.Fresh.{freshOf}
 use Rattle.laws.specs.Running.{Running, running-parts}
-use Rattle.laws.specs.Kept.{Sound, clear-sound, post-sound, dispatch-sound, fresh-sound}
+use Rattle.laws.specs.Failing.{Sound}
+use Rattle.laws.specs.Kept.{clear-sound, post-sound, dispatch-sound, fresh-sound}
+use Rattle.laws.specs.KeptTasks.{end-sound, abend-sound, detach-sound}
+use Rattle.laws.specs.Attaching.{attach-sound}
 use Rattle.queue.specs.Queues.{stored, packedb}
 use Rattle.queue.proofs.Views.{live-stored}
 use Rattle.queue.proofs.Passes.{stored-passes as queue-passes}
@@ -112,6 +121,18 @@ post-leaves-sound t c e code h = answered-sound t (λ s. postOf s c e code) h (�
 
 pub dispatch-leaves-sound : (t : Tables) → soundb t ≡ true → soundb (answered t dispatchOf .tables) ≡ true
 dispatch-leaves-sound t h = answered-sound t dispatchOf h dispatch-sound
+
+pub attach-leaves-sound : (t : Tables) (c : TaskNumber) (lpmod : ℕ) (dpmod : ℤ) (ecb : MaybeEcb) → soundb t ≡ true → soundb (answered t (λ s. attachOf s c lpmod dpmod ecb) .tables) ≡ true
+attach-leaves-sound t c lpmod dpmod ecb h = answered-sound t (λ s. attachOf s c lpmod dpmod ecb) h (λ s k. attach-sound s c lpmod dpmod ecb k)
+
+pub detach-leaves-sound : (t : Tables) (c task : TaskNumber) → soundb t ≡ true → soundb (answered t (λ s. detachOf s c task) .tables) ≡ true
+detach-leaves-sound t c task h = answered-sound t (λ s. detachOf s c task) h (λ s k. detach-sound s c task k)
+
+pub end-leaves-sound : (t : Tables) (c : TaskNumber) (code : ℕ) → soundb t ≡ true → soundb (answered t (λ s. endOf s c code) .tables) ≡ true
+end-leaves-sound t c code h = answered-sound t (λ s. endOf s c code) h (λ s k. end-sound s c code k)
+
+pub abend-leaves-sound : (t : Tables) (c : TaskNumber) (code : ℕ) (step : Bool) → soundb t ≡ true → soundb (answered t (λ s. abendOf s c code step) .tables) ≡ true
+abend-leaves-sound t c code step h = answered-sound t (λ s. abendOf s c code step) h (λ s k. abend-sound s c code step k)
 
 pub fresh-leaves-sound : (limit dispatching : ℕ) → soundb (keptBy tablesOf (freshOf limit dispatching) .tables) ≡ true
 fresh-leaves-sound limit dispatching = sound-kept (freshOf limit dispatching .tables) (fresh-sound limit dispatching)

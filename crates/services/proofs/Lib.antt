@@ -1,2 +1,5 @@
 pub mod Glue
+pub mod Endings
+pub mod Abending
+pub mod Attaching
 pub mod Leaves

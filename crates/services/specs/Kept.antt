@@ -1,12 +1,15 @@
 -- The step that tables stand for, the tables that keep a step, and what a service answers. Assumes nothing.
-use mathlib.Core.Bool.{Bool, false}
+use mathlib.Core.Path.{_≡_}
+use mathlib.Core.Bool.{Bool, true, false}
+use Prim.Native.Nat.{ℕ}
 use Rattle.lists.specs.Pick.{pick}
 use Rattle.kinds.specs.Replies.{numberOf, besidesOf}
 use Rattle.kinds.specs.declared.numbers.TaskNumber.{TaskNumber}
 use Rattle.kinds.specs.declared.replies.Refusal.the-variants.{Unsound}
 use Rattle.kinds.specs.declared.replies.Gate.{Gate}
-use Rattle.kinds.specs.declared.replies.Gate.the-variants.{Shut}
+use Rattle.kinds.specs.declared.replies.Gate.the-variants.{Open, Shut}
 use Rattle.rules.specs.Steps.{Step, Outcome, refused, keptBy}
+use Rattle.rules.specs.Events.{signalled}
 use Rattle.rules.specs.Sound.{soundStep}
 use Rattle.rules.specs.Admission.{gateOf, openGate}
 use Rattle.family.specs.Families.{familyOf}
@@ -43,9 +46,18 @@ pub record Packed (t : Tables) : Type 0 where
   pub queue : PackedQueue (t .queue)
   pub storage : PackedAreas (t .storage)
 
+-- with other tasks
+abbrev pub withFamily : Tables → Family → Tables
+withFamily t f = record { over = t .over; code = t .code; family = f; queue = t .queue; events = t .events; storage = t .storage }
+
 -- with other ECBs and tasks
 abbrev pub withSignals : Tables → Events → Family → Tables
 withSignals t e f = record { over = t .over; code = t .code; family = f; queue = t .queue; events = e; storage = t .storage }
+
+-- with ECB e posted
+abbrev pub postedIn : Tables → ℕ → ℕ → Tables
+postedIn t e code =
+    withSignals t (eventsOf (signalled (t .family .places) (t .events .ecbs) e code .ecbs)) (familyOf (signalled (t .family .places) (t .events .ecbs) e code .tasks))
 
 -- what an answer says, by the paper's number and value
 abbrev pub said : Answer → Outcome Tables
@@ -65,6 +77,11 @@ gated t g = pick (soundb t) (g (stepOf t)) (Shut Unsound)
 
 abbrev pub gateAt : Tables → TaskNumber → Gate
 gateAt t c = gated t (λ s. gateOf s c)
+
+-- what an open gate gives to the service behind it
+pub record Admitted (t : Tables) (c : TaskNumber) : Type 0 where
+  pub sound : soundb t ≡ true
+  pub gate : gateOf (stepOf t) c ≡ Open
 
 abbrev pub openGateAt : Tables → Gate
 openGateAt t = gated t openGate

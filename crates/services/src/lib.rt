@@ -1,9 +1,18 @@
-// The tables of a step, and the services on them.
+// The tables of a step, the gate, and how a service answers. Each service has a file of its own.
+pub mod abend;
+pub mod attach;
+pub mod clear;
+pub mod detach;
+pub mod dispatch;
+pub mod end;
+pub mod fresh;
+pub mod post;
+
 use events::Events;
 use family::Family;
 use kinds::Condition;
-use kinds::Ecb;
 use kinds::EcbNumber;
+use kinds::Fault;
 use kinds::Gate;
 use kinds::MaybeEcb;
 use kinds::Refusal;
@@ -13,13 +22,16 @@ use kinds::TaskNumber;
 use queue::Queue;
 use storage::Storage;
 ghost use mathlib.Core.Path.{_≡_};
-ghost use Rattle.rules.specs.Steps.{refused as refusedOf, done, keptBy, overStep};
+ghost use mathlib.Core.Bool.{false};
+ghost use Prim.Native.Nat.{_≤_};
+ghost use Rattle.kinds.specs.Limits.{highestEcb};
+ghost use Rattle.kinds.specs.Tasks.{isLive, withCondition};
+ghost use Rattle.kinds.specs.declared.tasks.Condition.the-variants.{Ended};
+ghost use Rattle.rules.specs.Steps.{refused as refusedOf, done as doneOf, keptBy, overStep};
+ghost use Rattle.rules.specs.Ending.{endTasks, leftBy, ended as endedOf, failing};
 ghost use Rattle.rules.specs.Admission.{admitted};
-ghost use Rattle.rules.specs.Fresh.{begunWith, freshOf};
-ghost use Rattle.rules.specs.Clear.{clearBody, clearOf};
-ghost use Rattle.rules.specs.Post.{postBody, postOf};
-ghost use Rattle.rules.specs.Dispatch.{dispatchBody, dispatchOf};
-ghost use Rattle.services.specs.Kept.{Packed, stepOf, tablesOf, withSignals, said, soundb, gateAt, openGateAt, answered};
+ghost use Rattle.laws.specs.Running.{Running};
+ghost use Rattle.services.specs.Kept.{Packed, Admitted, stepOf, tablesOf, withSignals, postedIn, said, soundb, gateAt, openGateAt};
 
 pub struct Tables {
     pub over: bool,
@@ -122,75 +134,9 @@ impl Tables {
         }
     }
 
-    // A step that runs, with its first task.
-    fn begun(first: Task) -> Tables
-        ensures { λ r. ⌜ r ≡ tablesOf (begunWith first) ⌝ }
-    {
-        let f = family::empty();
-        let g = family::with_place(f, TaskNumber(TaskNumber::LOWEST), first);
-        let q = queue::empty();
-        let e = events::empty();
-        let s = storage::empty();
-        Tables {
-            over: false,
-            code: 0,
-            family: g,
-            queue: q,
-            events: e,
-            storage: s,
-        }
-    }
-
-    // A fresh step, or 101 and a step already over with code 0.
-    pub fn fresh(limit: u16, dispatching: u16) -> Answer
-        ensures { λ r. ⌜ said r ≡ keptBy tablesOf (freshOf limit dispatching) ⌝ }
-    {
-        if !Task::priority_good(limit) {
-            return Tables::over_with(0).refused(Refusal::OutOfRange);
-        }
-        if limit < dispatching {
-            return Tables::over_with(0).refused(Refusal::OutOfRange);
-        }
-        let first = Task {
-            condition: Condition::Ready,
-            mother: TaskNumber(0),
-            limit: limit as u8,
-            dispatching: dispatching as u8,
-            ecb: MaybeEcb::NoEcb,
-        };
-        let t = Tables::begun(first);
-        Answer {
-            tables: t,
-            reply: Reply::Done(0),
-        }
-    }
-
-    // DISPATCH of a step that runs.
-    fn dispatch_body(self) -> Answer
-        requires { ⌜ Packed self ⌝ }
-        ensures { λ r. ⌜ said r ≡ keptBy tablesOf (dispatchBody (stepOf self)) ⌝ }
-    {
-        let f = self.family;
-        let n = family::choice::dispatched(f);
-        Answer {
-            tables: self,
-            reply: Reply::Done(n.0 as u32),
-        }
-    }
-
-    // DISPATCH: the ready task of highest dispatching priority.
-    pub fn dispatch(self) -> Answer
-        ensures { λ r. ⌜ said r ≡ answered self dispatchOf ⌝ }
-    {
-        match self.open_gate() {
-            Gate::Shut(why) => self.refused(why),
-            Gate::Open => self.dispatch_body(),
-        }
-    }
-
     // The ECBs and the tasks are as a service leaves them.
     fn signalled(self, e: Events, f: Family) -> Answer
-        ensures { λ r. ⌜ said r ≡ done 0 (withSignals self e f) ⌝ }
+        ensures { λ r. ⌜ said r ≡ doneOf 0 (withSignals self e f) ⌝ }
     {
         let mut next = self;
         next.events = e;
@@ -201,60 +147,92 @@ impl Tables {
         }
     }
 
-    // CLEAR of an admitted caller.
-    fn clear_body(self, caller: TaskNumber, ecb: EcbNumber) -> Answer
-        requires { ⌜ Packed self ⌝ }
-        ensures { λ r. ⌜ said r ≡ keptBy tablesOf (clearBody (stepOf self) caller ecb) ⌝ }
+    fn done(self, value: u32) -> Answer
+        ensures { λ r. ⌜ said r ≡ doneOf value self ⌝ }
     {
-        if !ecb.is_good() {
-            return self.refused(Refusal::OutOfRange);
-        }
-        let e = self.events;
-        let f = self.family;
-        let old = events::at(e, ecb);
-        if old.waiter.0 != 0 {
-            return self.refused(Refusal::WaitBitOn);
-        }
-        let next = events::with_ecb(e, ecb, Ecb::zero());
-        self.signalled(next, f)
-    }
-
-    // CLEAR: the event control block's word becomes zero.
-    pub fn clear(self, caller: TaskNumber, ecb: EcbNumber) -> Answer
-        ensures { λ r. ⌜ said r ≡ answered self (λ s. clearOf s caller ecb) ⌝ }
-    {
-        match self.gate(caller) {
-            Gate::Shut(why) => self.refused(why),
-            Gate::Open => self.clear_body(caller, ecb),
+        Answer {
+            tables: self,
+            reply: Reply::Done(value),
         }
     }
 
-    // POST of an admitted caller.
-    fn post_body(self, caller: TaskNumber, ecb: EcbNumber, code: u32) -> Answer
-        requires { ⌜ Packed self ⌝ }
-        ensures { λ r. ⌜ said r ≡ keptBy tablesOf (postBody (stepOf self) caller ecb code) ⌝ }
+    // The one ending. Task n and all below it end: n's place becomes `last`, and what belonged to those who are live no more goes with them.
+    fn without(self, n: TaskNumber, last: Task) -> Tables
+        requires { ⌜ Packed self × (Running (stepOf self) × (isLive (last .condition) ≡ false)) ⌝ }
+        ensures { λ r. ⌜ r ≡ tablesOf (leftBy (stepOf self) (endTasks (self .family .places) (n .0) last)) ⌝ }
     {
-        if !ecb.is_good() {
-            return self.refused(Refusal::OutOfRange);
+        let all = self.family;
+        let q = self.queue;
+        let e = self.events;
+        let s = self.storage;
+        let left = family::ending::end_tasks(all, n, last);
+        let entries = locks::ending::sweep(q, left);
+        let tasks = locks::waking::wake(entries, left);
+        let blocks = signals::ending::sweep(e, left);
+        let areas = holdings::sweep(s, left);
+        Tables {
+            over: self.over,
+            code: self.code,
+            family: tasks,
+            queue: entries,
+            events: blocks,
+            storage: areas,
         }
-        if !Ecb::code_good(code) {
-            return self.refused(Refusal::OutOfRange);
-        }
+    }
+
+    // With an ECB posted.
+    fn posted(self, ecb: EcbNumber, code: u16) -> Tables
+        requires { ⌜ ecb .0 ≤ highestEcb ⌝ }
+        ensures { λ r. ⌜ r ≡ postedIn self (ecb .0) code ⌝ }
+    {
         let e = self.events;
         let f = self.family;
-        let l = signals::post(e, f, ecb, code);
+        let l = signals::post(e, f, ecb, code as u32);
         let d = l.events;
         let g = l.family;
-        self.signalled(d, g)
+        let mut next = self;
+        next.events = d;
+        next.family = g;
+        next
     }
 
-    // POST: the event is complete, and its waiter needs one post fewer.
-    pub fn post(self, caller: TaskNumber, ecb: EcbNumber, code: u32) -> Answer
-        ensures { λ r. ⌜ said r ≡ answered self (λ s. postOf s caller ecb code) ⌝ }
+    // Task c, whose place is x, ends: the place is kept as ended, and the ECB that it was attached with is posted.
+    fn kept_as_ended(self, c: TaskNumber, x: Task, ecb: EcbNumber, code: u16) -> Tables
+        requires { ⌜ Packed self × (Running (stepOf self) × (ecb .0 ≤ highestEcb)) ⌝ }
+        ensures { λ r. ⌜ r ≡ postedIn (tablesOf (leftBy (stepOf self) (endTasks (self .family .places) (c .0) (withCondition x Ended)))) (ecb .0) code ⌝ }
     {
-        match self.gate(caller) {
-            Gate::Shut(why) => self.refused(why),
-            Gate::Open => self.post_body(caller, ecb, code),
+        let last = x.with_condition(Condition::Ended);
+        let t = self.without(c, last);
+        t.posted(ecb, code)
+    }
+
+    // Task c ends with this code and all below it: its ECB, if it was attached with one, is posted, and no other.
+    fn ended(self, c: TaskNumber, code: u16) -> Tables
+        requires { ⌜ Admitted self c ⌝ }
+        ensures { λ r. ⌜ r ≡ tablesOf (endedOf (stepOf self) (c .0) code) ⌝ }
+    {
+        if c.0 == TaskNumber::LOWEST {
+            return Tables::over_with(code);
+        }
+        let f = self.family;
+        let x = family::at(f, c);
+        let free = Task::free();
+        let own = x.ecb;
+        match own {
+            MaybeEcb::NoEcb => self.without(c, free),
+            MaybeEcb::Named(ecb) => self.kept_as_ended(c, x, ecb, code),
+        }
+    }
+
+    // A program error ends the caller with its number, and does nothing else.
+    fn failed(self, caller: TaskNumber, what: Fault) -> Answer
+        requires { ⌜ Admitted self caller ⌝ }
+        ensures { λ r. ⌜ said r ≡ keptBy tablesOf (failing what (stepOf self) caller) ⌝ }
+    {
+        let t = self.ended(caller, what.number());
+        Answer {
+            tables: t,
+            reply: Reply::Failed(what),
         }
     }
 }

@@ -1,0 +1,46 @@
+use mathlib.Core.Path.{_≡_, sym, ap, _∙_}
+use Rattle.rules.specs.Steps.{Step, refused}
+use Rattle.rules.specs.Admission.{gateOf}
+use Rattle.rules.specs.Detach.{detachBody}
+use Rattle.services.proofs.Glue.{gate-admits, at-open, at-shut}
+use borrow.Author.Needs.{needs}
+use Rattle.services.proofs.Tables.detach.Statement.{statement}
+use Rattle.services.proofs.Tables.detach.Tie as tie
+use Rattle.services.proofs.Tables.detach.Reads as reads
+use Rattle.services.proofs.Tables.detach.Lts as lts
+use Rattle.services.proofs.Tables.detach_body.Reads as detach-body-reads
+use Rattle.services.proofs.Tables.gate.Reads as gate-reads
+use Rattle.services.proofs.Tables.refused.Reads as refused-reads
+
+gate-requires : tie.Need-gate-requires
+gate-requires c κs = search needs
+
+enum-known-why : tie.Need-enum-known-why
+enum-known-why c = search needs
+
+refused-requires : tie.Need-refused-requires
+refused-requires c κs = search needs
+
+enum-told : tie.Need-enum-told
+enum-told c = search needs
+
+detach-body-requires : tie.Need-detach-body-requires
+detach-body-requires c κs = gate-admits ((c .before .before .before .args) .self) ((c .before .before .before .args) .caller) _ ((c .before .before .gate) .ensures) (search needs)
+
+returns : tie.Need-returns
+returns c = at-shut ((c .before .before .before .before .before .args) .self) (λ (s : Step). gateOf s ((c .before .before .before .before .before .args) .caller)) (λ (s : Step). detachBody s ((c .before .before .before .before .before .args) .caller) ((c .before .before .before .before .before .args) .task)) _ _ _ ((c .before .before .before .before .gate) .ensures) ((c .before .before .why) .given .1) ((c .refused) .ensures)
+
+returns-2 : tie.Need-returns-2
+returns-2 c = at-open ((c .before .before .before .before .args) .self) (λ (s : Step). gateOf s ((c .before .before .before .before .args) .caller)) (λ (s : Step). detachBody s ((c .before .before .before .before .args) .caller) ((c .before .before .before .before .args) .task)) _ _ ((c .before .before .before .gate) .ensures) (search needs) ((c .detach-body) .ensures)
+
+pub detach-spec : {M : Type 1} → statement M
+detach-spec =
+    tie.close
+    (tie.spec
+    gate-requires
+    enum-known-why
+    refused-requires
+    enum-told
+    detach-body-requires
+    returns
+    returns-2)

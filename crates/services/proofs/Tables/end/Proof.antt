@@ -1,0 +1,46 @@
+use mathlib.Core.Path.{_≡_, sym, ap, _∙_}
+use Rattle.rules.specs.Steps.{Step, refused}
+use Rattle.rules.specs.Admission.{gateOf}
+use Rattle.rules.specs.End.{endBody}
+use Rattle.services.proofs.Glue.{gate-admits, at-open, at-shut}
+use borrow.Author.Needs.{needs}
+use Rattle.services.proofs.Tables.end.Statement.{statement}
+use Rattle.services.proofs.Tables.end.Tie as tie
+use Rattle.services.proofs.Tables.end.Reads as reads
+use Rattle.services.proofs.Tables.end.Lts as lts
+use Rattle.services.proofs.Tables.end_body.Reads as end-body-reads
+use Rattle.services.proofs.Tables.gate.Reads as gate-reads
+use Rattle.services.proofs.Tables.refused.Reads as refused-reads
+
+gate-requires : tie.Need-gate-requires
+gate-requires c κs = search needs
+
+enum-known-why : tie.Need-enum-known-why
+enum-known-why c = search needs
+
+refused-requires : tie.Need-refused-requires
+refused-requires c κs = search needs
+
+enum-told : tie.Need-enum-told
+enum-told c = search needs
+
+end-body-requires : tie.Need-end-body-requires
+end-body-requires c κs = gate-admits ((c .before .before .before .args) .self) ((c .before .before .before .args) .caller) _ ((c .before .before .gate) .ensures) (search needs)
+
+returns : tie.Need-returns
+returns c = at-shut ((c .before .before .before .before .before .args) .self) (λ (s : Step). gateOf s ((c .before .before .before .before .before .args) .caller)) (λ (s : Step). endBody s ((c .before .before .before .before .before .args) .caller) ((c .before .before .before .before .before .args) .code)) _ _ _ ((c .before .before .before .before .gate) .ensures) ((c .before .before .why) .given .1) ((c .refused) .ensures)
+
+returns-2 : tie.Need-returns-2
+returns-2 c = at-open ((c .before .before .before .before .args) .self) (λ (s : Step). gateOf s ((c .before .before .before .before .args) .caller)) (λ (s : Step). endBody s ((c .before .before .before .before .args) .caller) ((c .before .before .before .before .args) .code)) _ _ ((c .before .before .before .gate) .ensures) (search needs) ((c .end-body) .ensures)
+
+pub end-spec : {M : Type 1} → statement M
+end-spec =
+    tie.close
+    (tie.spec
+    gate-requires
+    enum-known-why
+    refused-requires
+    enum-told
+    end-body-requires
+    returns
+    returns-2)

@@ -1,0 +1,30 @@
+use mathlib.Core.Path.{_≡_, refl, sym, ap, _∙_}
+use Rattle.kinds.specs.Tasks.{isLive}
+use Rattle.kinds.specs.declared.tasks.Task.{Task}
+use Rattle.rules.specs.Ending.{endTasks, leftBy}
+use Rattle.services.specs.Kept.{stepOf, tablesOf, postedIn}
+use Rattle.services.specs.declared.Tables.{Tables}
+use borrow.Author.Needs.{needs}
+use Rattle.services.proofs.Tables.kept_as_ended.Statement.{statement}
+use Rattle.services.proofs.Tables.kept_as_ended.Tie as tie
+use Rattle.services.proofs.Tables.kept_as_ended.Reads as reads
+use Rattle.services.proofs.Tables.kept_as_ended.Lts as lts
+use Rattle.kinds.proofs.tasks.Task.with_condition.Reads as with-condition-reads
+use Rattle.services.proofs.Tables.posted.Reads as posted-reads
+use Rattle.services.proofs.Tables.without.Reads as without-reads
+
+with-condition-requires : tie.Need-with-condition-requires
+with-condition-requires c κs = search needs
+
+without-requires : tie.Need-without-requires
+without-requires c κs = ((c .before .pre) .0, ((c .before .pre) .1 .0, ap (λ (x : Task). isLive (x .condition)) ((c .with-condition) .ensures)))
+
+posted-requires : tie.Need-posted-requires
+posted-requires c κs = (c .before .before .pre) .1 .1
+
+returns : tie.Need-returns
+returns c = (c .posted) .ensures ∙ ap (λ (t : Tables). postedIn t ((c .before .before .before .args) .ecb .0) ((c .before .before .before .args) .code)) ((c .before .without) .ensures ∙ ap (λ (x : Task). tablesOf (leftBy (stepOf ((c .before .before .before .args) .self)) (endTasks ((c .before .before .before .args) .self .family .places) ((c .before .before .before .args) .c .0) x))) ((c .before .before .with-condition) .ensures))
+
+pub kept-as-ended-spec : {M : Type 1} → statement M
+kept-as-ended-spec =
+    tie.close (tie.spec with-condition-requires without-requires posted-requires returns)

@@ -1,0 +1,44 @@
+// END.
+use crate::Answer;
+use crate::Tables;
+use kinds::Gate;
+use kinds::TaskNumber;
+use kinds::Verdict;
+ghost use mathlib.Core.Path.{_≡_};
+ghost use Rattle.rules.specs.Steps.{keptBy};
+ghost use Rattle.rules.specs.End.{endDone, endBody, endOf};
+ghost use Rattle.services.specs.Kept.{Admitted, stepOf, tablesOf, said, answered};
+
+impl Tables {
+    // The caller ends, with whatever is below it.
+    fn end_done(self, caller: TaskNumber, code: u16) -> Answer
+        requires { ⌜ Admitted self caller ⌝ }
+        ensures { λ r. ⌜ said r ≡ keptBy tablesOf (endDone (stepOf self) caller code) ⌝ }
+    {
+        let t = self.ended(caller, code);
+        t.done(0)
+    }
+
+    // END of an admitted caller.
+    fn end_body(self, caller: TaskNumber, code: u16) -> Answer
+        requires { ⌜ Admitted self caller ⌝ }
+        ensures { λ r. ⌜ said r ≡ keptBy tablesOf (endBody (stepOf self) caller code) ⌝ }
+    {
+        let f = self.family;
+        match family::verdicts::end_verdict(f, caller, code) {
+            Verdict::Go => self.end_done(caller, code),
+            Verdict::Refuse(why) => self.refused(why),
+            Verdict::Fail(what) => self.failed(caller, what),
+        }
+    }
+
+    // END: the caller, which has no subtasks, ends.
+    pub fn end(self, caller: TaskNumber, code: u16) -> Answer
+        ensures { λ r. ⌜ said r ≡ answered self (λ s. endOf s caller code) ⌝ }
+    {
+        match self.gate(caller) {
+            Gate::Shut(why) => self.refused(why),
+            Gate::Open => self.end_body(caller, code),
+        }
+    }
+}

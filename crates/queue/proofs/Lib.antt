@@ -5,9 +5,4 @@ pub mod Passes
 pub mod Builds
 pub mod Looking
 pub mod Exclusive
-pub mod Filled
-pub mod Flagged
-pub mod Coded
-pub mod Soles
 pub mod Sweeps
-pub mod Judged

@@ -1,5 +1,2 @@
 pub mod Queues
 pub mod Marking
-pub mod Flagging
-pub mod Leading
-pub mod Coding

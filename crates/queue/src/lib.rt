@@ -1,11 +1,7 @@
 // The resource queue: entries in the order of request, packed.
-pub mod codes;
 pub mod deq;
 pub mod enq;
-pub mod flags;
-pub mod lead;
 pub mod marks;
-pub mod verdict;
 
 use kinds::Name;
 use kinds::Slot;

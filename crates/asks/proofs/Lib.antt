@@ -1,0 +1,5 @@
+pub mod Filled
+pub mod Flagged
+pub mod Coded
+pub mod Soles
+pub mod Judged

@@ -1,0 +1,52 @@
+use borrow.Author.Needs.{needs}
+use Rattle.asks.proofs.verdict.duplicated.Statement.{statement}
+use Rattle.asks.proofs.verdict.duplicated.Tie as tie
+
+enum-told : tie.Need-enum-told
+enum-told c = search needs
+
+some-entered-requires : tie.Need-some-entered-requires
+some-entered-requires c κs = search needs
+
+enum-told-2 : tie.Need-enum-told-2
+enum-told-2 c = search needs
+
+enum-told-3 : tie.Need-enum-told-3
+enum-told-3 c = search needs
+
+enum-told-4 : tie.Need-enum-told-4
+enum-told-4 c = search needs
+
+enum-told-5 : tie.Need-enum-told-5
+enum-told-5 c = search needs
+
+returns : tie.Need-returns
+returns c = rw ((c .before .enum-told) .given .1) ((c .some-entered) .ensures)
+
+returns-2 : tie.Need-returns-2
+returns-2 c = search needs
+
+returns-3 : tie.Need-returns-3
+returns-3 c = search needs
+
+returns-4 : tie.Need-returns-4
+returns-4 c = search needs
+
+returns-5 : tie.Need-returns-5
+returns-5 c = search needs
+
+pub duplicated-spec : {M : Type 1} → statement M
+duplicated-spec =
+    tie.close
+    (tie.spec
+    enum-told
+    some-entered-requires
+    enum-told-2
+    enum-told-3
+    enum-told-4
+    enum-told-5
+    returns
+    returns-2
+    returns-3
+    returns-4
+    returns-5)

@@ -1,7 +1,3 @@
-pub mod Attaching
 pub mod Chains
 pub mod Mothers
 pub mod Reaching
-pub mod Sums
-pub mod Walks
-pub mod Freeing

@@ -1,10 +1,6 @@
 // The task table: task n stands at place n - 1.
-pub mod attach;
 pub mod choice;
-pub mod ending;
 pub mod sound;
-pub mod subtasks;
-pub mod verdicts;
 
 use kinds::Task;
 use kinds::TaskNumber;

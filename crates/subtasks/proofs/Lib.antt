@@ -1,0 +1,4 @@
+pub mod Attaching
+pub mod Sums
+pub mod Walks
+pub mod Freeing

@@ -1,0 +1,70 @@
+// What ATTACH does to the task table: its tests, and the place of a new task.
+use family::Family;
+use kinds::Condition;
+use kinds::MaybeEcb;
+use kinds::Refusal;
+use kinds::Task;
+use kinds::TaskNumber;
+use kinds::Verdict;
+ghost use mathlib.Core.Path.{_≡_};
+ghost use Rattle.rules.specs.Attach.{newLimit, newDispatching, newTask, attachVerdict};
+
+// The mother's limit less LPMOD, or 0 if that is negative.
+fn new_limit(limit: u8, lpmod: u16) -> u8
+    ensures { λ r. ⌜ r ≡ newLimit limit lpmod ⌝ }
+{
+    let wide = limit as u16;
+    if wide < lpmod {
+        return 0;
+    }
+    (wide - lpmod) as u8
+}
+
+// The mother's dispatching priority plus DPMOD, held to at least 0 and at most the new limit. The sum is made in a type that holds every sum.
+fn new_dispatching(dispatching: u8, dpmod: i16, limit: u8) -> u8
+    ensures { λ r. ⌜ r ≡ newDispatching dispatching dpmod limit ⌝ }
+{
+    let sum = dispatching as i32 + dpmod as i32;
+    if sum < 0 {
+        return 0;
+    }
+    if (limit as i32) < sum {
+        return limit;
+    }
+    sum as u8
+}
+
+// The new task's place: m is its mother's, whose number is c.
+pub fn new_task(m: Task, c: TaskNumber, lpmod: u16, dpmod: i16, ecb: MaybeEcb) -> Task
+    ensures { λ r. ⌜ r ≡ newTask m c lpmod dpmod ecb ⌝ }
+{
+    let limit = new_limit(m.limit, lpmod);
+    let dispatching = new_dispatching(m.dispatching, dpmod, limit);
+    Task {
+        condition: Condition::Ready,
+        mother: c,
+        limit,
+        dispatching,
+        ecb,
+    }
+}
+
+// 101, then 106.
+pub fn attach_verdict(f: Family, lpmod: u16, dpmod: i16, ecb: MaybeEcb) -> Verdict
+    ensures { λ r. ⌜ r ≡ attachVerdict (f .places) lpmod dpmod ecb ⌝ }
+{
+    if !Task::priority_good(lpmod) {
+        return Verdict::Refuse(Refusal::OutOfRange);
+    }
+    if !Task::dpmod_good(dpmod) {
+        return Verdict::Refuse(Refusal::OutOfRange);
+    }
+    if !family::sound::ecb_good(ecb) {
+        return Verdict::Refuse(Refusal::OutOfRange);
+    }
+    let n = family::choice::lowest_free(f);
+    if n.0 == 0 {
+        return Verdict::Refuse(Refusal::NoTaskFree);
+    }
+    Verdict::Go
+}

@@ -1,0 +1,36 @@
+// The tests of END and DETACH on the task table, in the paper's order.
+use family::Family;
+use kinds::Fault;
+use kinds::Refusal;
+use kinds::Task;
+use kinds::TaskNumber;
+use kinds::Verdict;
+ghost use mathlib.Core.Path.{_≡_};
+ghost use Rattle.rules.specs.End.{endVerdict};
+ghost use Rattle.rules.specs.Detach.{detachVerdict};
+
+// 101, then 207.
+pub fn end_verdict(f: Family, c: TaskNumber, code: u16) -> Verdict
+    ensures { λ r. ⌜ r ≡ endVerdict (f .places) c code ⌝ }
+{
+    if !Task::code_good(code) {
+        return Verdict::Refuse(Refusal::OutOfRange);
+    }
+    if crate::direct::has_subtasks(f, c) {
+        return Verdict::Fail(Fault::HasSubtasks);
+    }
+    Verdict::Go
+}
+
+// 101, then 208.
+pub fn detach_verdict(f: Family, c: TaskNumber, task: TaskNumber) -> Verdict
+    ensures { λ r. ⌜ r ≡ detachVerdict (f .places) c task ⌝ }
+{
+    if !task.is_good() {
+        return Verdict::Refuse(Refusal::OutOfRange);
+    }
+    if !crate::direct::is_subtask(f, c, task) {
+        return Verdict::Fail(Fault::NotSubtask);
+    }
+    Verdict::Go
+}

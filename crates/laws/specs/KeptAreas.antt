@@ -6,44 +6,37 @@ use Prim.Native.Nat.{ℕ, _+_, _%_, _≤_, _<_}
 use native.Mathlib.Omega.{arith}
 use lib.Dec.{eqb, leb}
 use lib.ListN.{length}
-use borrow.Author.Tests.{leb-true, leb-false, le-leb, lt-ltb, eq-eqb}
-use Rattle.lists.specs.Lists.{every, keep}
+use borrow.Author.Tests.{leb-true, le-leb, lt-ltb, eq-eqb}
+use Rattle.lists.specs.Lists.{every, keep, some}
 use Rattle.lists.specs.Keeping.{every-keep}
 use Rattle.lists.specs.Bools.{both}
 use Rattle.lists.specs.Pick.{pick}
 use Rattle.kinds.specs.Limits.{mostAreas, region}
-use Rattle.kinds.specs.Ranges.{lengthGood, subpoolGood}
+use Rattle.kinds.specs.Ranges.{addressGood, lengthGood, subpoolGood}
 use Rattle.kinds.specs.declared.areas.Area.{Area}
 use Rattle.kinds.specs.declared.tasks.Task.{Task}
 use Rattle.kinds.specs.declared.numbers.TaskNumber.{TaskNumber}
 use Rattle.kinds.specs.declared.numbers.Address.{Address}
 use Rattle.kinds.specs.declared.numbers.Place.{Place}
 use Rattle.kinds.specs.declared.numbers.Place.the-variants.{At, Nowhere}
-use Rattle.kinds.specs.declared.replies.Refusal.the-variants.{OutOfRange, NoAreaFree}
+use Rattle.kinds.specs.declared.replies.Fault.the-variants.{NoSuchArea}
+use Rattle.kinds.specs.declared.replies.Refusal.the-variants.{OutOfRange}
 use Rattle.kinds.specs.declared.replies.Verdict.{Verdict}
-use Rattle.kinds.specs.declared.replies.Verdict.the-variants.{Go, Refuse}
+use Rattle.kinds.specs.declared.replies.Verdict.the-variants.{Go, Refuse, Fail}
 use Rattle.rules.specs.Family.{live}
 use Rattle.rules.specs.Storage.{rounded, ownerIn, areaAt, apart, permitted, placedAt, lowest, insertedIn}
 use Rattle.rules.specs.SoundAreas.{areaShapeGood, areaOwnerGood, areaOwnersGood}
 use Rattle.rules.specs.Steps.{Step, withAreas}
-use Rattle.rules.specs.Getmain.{roomVerdict, wanted, getmainVerdict, given, getmainDone, getmainOf}
+use Rattle.rules.specs.Getmain.{wanted, getmainVerdict, given, getmainDone, getmainOf}
 use Rattle.rules.specs.Freemain.{isNamed, freemainVerdict, freemainDone, freemainOf}
 use Rattle.laws.specs.Running.{Running, running-whole, areas-only}
 use Rattle.laws.specs.Areas.{fit-fewer, shapes-fewer, rise-fewer, apart-fewer, fit-inserted, shapes-inserted, owners-inserted, rise-inserted, apart-inserted}
 use Rattle.laws.specs.Lowest.{Room, Lowest, lowest-is}
-use Rattle.laws.specs.Rooms.{wanted-long}
+use Rattle.laws.specs.Rooms.{wanted-long, getmain-goes}
 use Rattle.laws.specs.Failing.{Sound}
 use Rattle.laws.specs.Admitted.{open-live, service-sound}
 
 -- GETMAIN
-
-getmain-go : (a b d : Bool) (v : Verdict) → pick a (pick b (pick d (Refuse NoAreaFree) v) (Refuse OutOfRange)) (Refuse OutOfRange) ≡ Go
-    → (a ≡ true) × (b ≡ true) × (d ≡ false)
-unfolding pick
-getmain-go true true false v q = (refl, refl, refl)
-getmain-go true true true v q = (refl, refl, cc)
-getmain-go true false d v q = (refl, cc, cc)
-getmain-go false b d v q = (cc, cc, cc)
 
 -- the area wanted, where there is room for it
 module _ (l : List Area) (bytes subpool c p : ℕ) (r : Room l (wanted bytes subpool c) p) where
@@ -89,16 +82,27 @@ module _ (s : Step) (h : Running s) (c : TaskNumber) (bytes subpool : ℕ) (g : 
   given-sound Nowhere f = running-whole s h
 
 pub getmain-sound : (s : Step) (c : TaskNumber) (bytes subpool : ℕ) (conditional : Bool) → Sound s → Sound (getmainOf s c bytes subpool conditional .tables)
-unfolding getmainVerdict getmainDone
+unfolding getmainDone
 getmain-sound s c bytes subpool conditional h =
     let w = wanted bytes subpool (c .0) in
     service-sound (getmainVerdict (s .areas) c bytes subpool conditional) s c (getmainDone s c bytes subpool) h
     (λ o r q.
-    let g = getmain-go (lengthGood bytes) (subpoolGood subpool) (leb mostAreas (length (s .areas))) (roomVerdict (lowest (s .areas) w) conditional) q in
-    given-sound s r c bytes subpool (g .0) (g .1) (leb-false mostAreas (length (s .areas)) (g .2)) (open-live s c o) (lowest (s .areas) w)
+    let g = getmain-goes (s .areas) c bytes subpool conditional q in
+    given-sound s r c bytes subpool (g .0) (g .1) (g .2) (open-live s c o) (lowest (s .areas) w)
     (lowest-is (s .areas) w (wanted-long bytes subpool (c .0) (g .0))))
 
 -- FREEMAIN
+
+-- what its verdict says where it goes on
+pub freemain-goes : (l : List Area) (c : TaskNumber) (address : Address) (bytes subpool : ℕ) → freemainVerdict l c address bytes subpool ≡ Go → lengthGood bytes ≡ true
+unfolding freemainVerdict pick
+freemain-goes l c address bytes subpool h =
+    one (addressGood (address .0)) (lengthGood bytes) (pick (subpoolGood subpool) (pick (some (isNamed c address bytes subpool) l) Go (Fail NoSuchArea)) (Refuse OutOfRange)) h
+  where
+    one : (a b : Bool) (v : Verdict) → pick a (pick b v (Refuse OutOfRange)) (Refuse OutOfRange) ≡ Go → b ≡ true
+    one true true v q = refl
+    one true false v q = cc
+    one false b v q = cc
 
 -- areas taken away leave a sound step
 pub fewer-running : (s : Step) (f : Area → Bool) → Running s → Running (withAreas s (keep f (s .areas)))

@@ -6,7 +6,7 @@ use Prim.Native.Nat.{ℕ, _<_, _≤_}
 use native.Mathlib.Omega.{arith}
 use lib.Dec.{leb, ltb}
 use lib.ListN.{length}
-use borrow.Author.Tests.{lt-leb, ltb-false}
+use borrow.Author.Tests.{lt-leb, ltb-false, leb-true, leb-false}
 use Rattle.lists.specs.Bools.{both}
 use Rattle.lists.specs.Pick.{pick, chain-not}
 use Rattle.kinds.specs.Limits.{mostAreas, region}
@@ -17,6 +17,9 @@ use Rattle.kinds.specs.declared.numbers.TaskNumber.{TaskNumber}
 use Rattle.kinds.specs.declared.numbers.Place.{Place}
 use Rattle.kinds.specs.declared.numbers.Place.the-variants.{At, Nowhere}
 use Rattle.kinds.specs.declared.replies.Fault.the-variants.{NoStorage}
+use Rattle.kinds.specs.declared.replies.Refusal.the-variants.{OutOfRange, NoAreaFree}
+use Rattle.kinds.specs.declared.replies.Verdict.{Verdict}
+use Rattle.kinds.specs.declared.replies.Verdict.the-variants.{Go, Refuse}
 use Rattle.kinds.specs.declared.replies.Gate.{Gate}
 use Rattle.kinds.specs.declared.replies.Gate.the-variants.{Open, Shut}
 use Rattle.rules.specs.Storage.{rounded, areaAt, lowest}
@@ -66,10 +69,31 @@ answers-at s c a false Nowhere h = record {
   lowestGiven = λ q r. absurd (h .below q tt r);
 }
 
--- a length of 1 at least is rounded to one of 8 at least
+-- a length in range
+pub length-range : (bytes : ℕ) → lengthGood bytes ≡ true → (1 ≤ bytes) × (bytes ≤ region)
+unfolding between
+length-range bytes h =
+    let p = chain-not (ltb bytes 1) (leb bytes region) h in (ltb-false bytes 1 (p .0), leb-true bytes region (p .1))
+
+-- is rounded to 8 at least
 pub wanted-long : (bytes subpool c : ℕ) → lengthGood bytes ≡ true → 0 < wanted bytes subpool c .size
-unfolding areaAt rounded between
-wanted-long bytes subpool c h = let k : 1 ≤ bytes = ltb-false bytes 1 (chain-not (ltb bytes 1) (leb bytes region) h .0) in omega arith
+unfolding areaAt rounded
+wanted-long bytes subpool c h = omega (arith, length-range bytes h .0)
+
+-- what GETMAIN's verdict says where it goes on
+pub getmain-goes : (l : List Area) (c : TaskNumber) (bytes subpool : ℕ) (conditional : Bool) → getmainVerdict l c bytes subpool conditional ≡ Go
+    → (lengthGood bytes ≡ true) × (subpoolGood subpool ≡ true) × (length l < mostAreas)
+unfolding getmainVerdict pick
+getmain-goes l c bytes subpool conditional h =
+    let p = one (lengthGood bytes) (subpoolGood subpool) (leb mostAreas (length l)) (roomVerdict (lowest l (wanted bytes subpool (c .0))) conditional) h in
+    (p .0, p .1, leb-false mostAreas (length l) (p .2))
+  where
+    one : (a b d : Bool) (v : Verdict) → pick a (pick b (pick d (Refuse NoAreaFree) v) (Refuse OutOfRange)) (Refuse OutOfRange) ≡ Go
+        → (a ≡ true) × (b ≡ true) × (d ≡ false)
+    one true true false v q = (refl, refl, refl)
+    one true true true v q = (refl, refl, cc)
+    one true false d v q = (refl, cc, cc)
+    one false b d v q = (cc, cc, cc)
 
 opened : (g : Gate) → isOpen g ≡ true → g ≡ Open
 opened Open e = refl

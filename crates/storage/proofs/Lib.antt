@@ -1,4 +1,5 @@
 pub mod Tests
+pub mod Verdicts
 pub mod Trials
 pub mod Growing
 pub mod Ranks

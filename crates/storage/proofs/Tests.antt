@@ -1,15 +1,14 @@
 -- How the tests on areas come out, test by test. Assumes nothing.
 use mathlib.Core.Path.{_≡_, ap}
-use mathlib.Core.Bool.{Bool, true, false}
+use mathlib.Core.Bool.{true, false}
 use Prim.Native.Nat.{ℕ, _≤_, _<_}
 use native.Mathlib.Omega.{arith}
-use lib.Dec.{leb, ltb}
+use lib.Dec.{leb}
 use lib.ListN.{length, length-take}
-use borrow.Author.Tests.{le-leb, lt-leb, lt-ltb, ltb-true}
+use borrow.Author.Tests.{le-leb, lt-leb}
 use Rattle.kinds.specs.declared.areas.Area.{Area}
 use Rattle.rules.specs.Storage.{startOf, endOf, firstPage, pastPage, bytesApart, oneHolder, pagesApart, apart}
 use Rattle.rules.specs.SoundAreas.{areasFit}
-use Rattle.lists.specs.Pairs.{Chains}
 use Rattle.storage.specs.Stored.{live}
 use Rattle.storage.specs.declared.Storage.{Storage}
 
@@ -46,13 +45,3 @@ unfolding areasFit
 fit-is s h k =
     let e : s .count ≡ length (live s) = omega (arith, length-take (s .count) (s .areas)) in
     ap (λ (n : ℕ). leb n 128) e
-
--- b starts above a
-abbrev pub rises : Area → Area → Bool
-rises a b = ltb (startOf a) (startOf b)
-
-pub rises-chain : Chains rises
-rises-chain a b d h k =
-    let p : startOf a < startOf b = ltb-true (startOf a) (startOf b) h in
-    let q : startOf b < startOf d = ltb-true (startOf b) (startOf d) k in
-    lt-ltb (startOf a) (startOf d) (omega arith)

@@ -1,3 +1,4 @@
 pub mod Stored
 pub mod Kept
 pub mod Changes
+pub mod Found

@@ -1,7 +1,11 @@
 // The storage table: areas by rising address, packed, and the tests of where they lie.
+pub mod asked;
+pub mod freemain;
+pub mod getmain;
+pub mod room;
+
 use kinds::Address;
 use kinds::Area;
-use kinds::Place;
 ghost use mathlib.Core.Path.{_≡_};
 ghost use mathlib.Core.Bool.{not};
 ghost use mathlib.Core.List.{[]};
@@ -10,7 +14,7 @@ ghost use lib.Seq.{slice};
 ghost use Rattle.lists.specs.Lists.{some, keep};
 ghost use Rattle.kinds.specs.Limits.{mostAreas};
 ghost use Rattle.kinds.specs.declared.areas.Area.{Area};
-ghost use Rattle.rules.specs.Storage.{startOf, endOf, oneHolder, bytesApart, firstPage, pastPage, pagesApart, apart as apartOf, sameArea, permitted as permittedBy, placedAt, lowest as lowestOf, insertedIn};
+ghost use Rattle.rules.specs.Storage.{startOf, endOf, oneHolder, bytesApart, firstPage, pastPage, pagesApart, apart as apartOf, sameArea, insertedIn};
 ghost use Rattle.rules.specs.SoundAreas.{areasFit, areaShapeGood, areaShapesGood, areasRise, areasApart};
 ghost use Rattle.storage.specs.Stored.{stored, live, Packed, isZero, restZero, packedb};
 ghost use Rattle.storage.specs.Changes.{appended, extended, rankIn, insertedAt};
@@ -225,56 +229,6 @@ pub fn areas_apart(s: Storage) -> bool
         }
     }
     true
-}
-
-// The area lies in the region, apart from every area there.
-pub fn permitted(s: Storage, a: Area) -> bool
-    requires { ⌜ s .count ≤ mostAreas ⌝ }
-    ensures { λ r. ⌜ r ≡ permittedBy (live s) a ⌝ }
-{
-    if (Address::REGION as u64) < end_of(a) {
-        return false;
-    }
-    let n = s.count;
-    let mut i = 0;
-    while i < n {
-        let x = s.areas[i];
-        if !apart(a, x) {
-            return false;
-        }
-        i += 1;
-    }
-    true
-}
-
-// The area wanted, at an address.
-fn placed(want: Area, at: u32) -> Area
-    ensures { λ r. ⌜ r ≡ placedAt want at ⌝ }
-{
-    let owner = want.owner;
-    Area {
-        start: Address(at),
-        size: want.size,
-        subpool: want.subpool,
-        owner,
-    }
-}
-
-// The lowest multiple of 8 at which the area wanted is permitted.
-pub fn lowest(s: Storage, want: Area) -> Place
-    requires { ⌜ s .count ≤ mostAreas ⌝ }
-    ensures { λ r. ⌜ r ≡ lowestOf (live s) want ⌝ }
-{
-    let mut left: u32 = Address::REGION / Address::DOUBLEWORD;
-    let mut at: u32 = 0;
-    while 0 < left {
-        if permitted(s, placed(want, at)) {
-            return Place::At(Address(at));
-        }
-        left -= 1;
-        at += Address::DOUBLEWORD;
-    }
-    Place::Nowhere
 }
 
 // One area more, at the place after the last.

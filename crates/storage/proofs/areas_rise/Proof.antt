@@ -9,7 +9,7 @@ use Rattle.lists.specs.Lists.{pairwise}
 use Rattle.lists.specs.Arrays.{mapped-length}
 use Rattle.rules.specs.SoundAreas.{areasRise}
 use Rattle.lists.specs.Pairs.{pairs-last, neighbours-fail, neighbours-go}
-use Rattle.storage.proofs.Tests.{rises, rises-chain}
+use Rattle.laws.specs.Areas.{rises, rises-chain}
 use Rattle.storage.proofs.areas_rise.Statement.{statement}
 use Rattle.storage.proofs.areas_rise.Tie as tie
 

@@ -10,7 +10,7 @@ ghost use Rattle.rules.specs.Storage.{placedAt, lowest as lowestOf};
 ghost use Rattle.storage.specs.Stored.{live};
 
 // The area wanted, at an address.
-pub fn placed(want: Area, at: Address) -> Area
+fn placed(want: Area, at: Address) -> Area
     ensures { λ r. ⌜ r ≡ placedAt want (at .0) ⌝ }
 {
     let owner = want.owner;

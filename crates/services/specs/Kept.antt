@@ -8,7 +8,8 @@ use Rattle.kinds.specs.declared.numbers.TaskNumber.{TaskNumber}
 use Rattle.kinds.specs.declared.replies.Refusal.the-variants.{Unsound}
 use Rattle.kinds.specs.declared.replies.Gate.{Gate}
 use Rattle.kinds.specs.declared.replies.Gate.the-variants.{Open, Shut}
-use Rattle.rules.specs.Steps.{Step, Outcome, refused, keptBy}
+use mathlib.Core.List.{List}
+use Rattle.rules.specs.Steps.{Step, Outcome, Served, refused, keptBy, untouched}
 use Rattle.rules.specs.Events.{signalled}
 use Rattle.rules.specs.Sound.{soundStep}
 use Rattle.rules.specs.Admission.{gateOf, openGate}
@@ -70,6 +71,16 @@ soundb t = pick (packedb (t .queue)) (pick (packedAreas (t .storage)) (soundStep
 -- 100, then what the rules say of the step that the tables stand for, kept in tables again
 unfoldable pub answered : Tables → (Step → Outcome Step) → Outcome Tables
 answered t f = pick (soundb t) (keptBy tablesOf (f (stepOf t))) (refused Unsound t)
+
+-- the same with what a codes area then holds: 100 leaves it as it is
+abbrev pub saidWith : Answer → List ℕ → Served Tables
+saidWith r area = record { outcome = said r; codes = area }
+
+abbrev pub servedBy : Served Step → Served Tables
+servedBy o = record { outcome = keptBy tablesOf (o .outcome); codes = o .codes }
+
+unfoldable pub answeredWith : Tables → List ℕ → (Step → List ℕ → Served Step) → Served Tables
+answeredWith t area f = pick (soundb t) (servedBy (f (stepOf t) area)) (untouched area (refused Unsound t))
 
 -- a gate, with 100 before it
 unfoldable pub gated : Tables → (Step → Gate) → Gate

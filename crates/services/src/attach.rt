@@ -20,7 +20,7 @@ impl Tables {
         let f = self.family;
         let n = family::choice::lowest_free(f);
         let m = family::at(f, caller);
-        let x = family::attach::new_task(m, caller, lpmod, dpmod, ecb);
+        let x = subtasks::attach::new_task(m, caller, lpmod, dpmod, ecb);
         let g = family::with_place(f, n, x);
         let mut next = self;
         next.family = g;
@@ -33,7 +33,7 @@ impl Tables {
         ensures { λ r. ⌜ said r ≡ keptBy tablesOf (attachBody (stepOf self) caller lpmod dpmod ecb) ⌝ }
     {
         let f = self.family;
-        match family::attach::attach_verdict(f, lpmod, dpmod, ecb) {
+        match subtasks::attach::attach_verdict(f, lpmod, dpmod, ecb) {
             Verdict::Go => self.attach_done(caller, lpmod, dpmod, ecb),
             Verdict::Refuse(why) => self.refused(why),
             Verdict::Fail(what) => self.failed(caller, what),

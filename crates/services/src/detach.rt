@@ -26,7 +26,7 @@ impl Tables {
         ensures { λ r. ⌜ said r ≡ keptBy tablesOf (detachBody (stepOf self) caller task) ⌝ }
     {
         let f = self.family;
-        match family::verdicts::detach_verdict(f, caller, task) {
+        match subtasks::verdicts::detach_verdict(f, caller, task) {
             Verdict::Go => self.detach_done(caller, task),
             Verdict::Refuse(why) => self.refused(why),
             Verdict::Fail(what) => self.failed(caller, what),

@@ -25,7 +25,7 @@ impl Tables {
         ensures { λ r. ⌜ said r ≡ keptBy tablesOf (endBody (stepOf self) caller code) ⌝ }
     {
         let f = self.family;
-        match family::verdicts::end_verdict(f, caller, code) {
+        match subtasks::verdicts::end_verdict(f, caller, code) {
             Verdict::Go => self.end_done(caller, code),
             Verdict::Refuse(why) => self.refused(why),
             Verdict::Fail(what) => self.failed(caller, what),

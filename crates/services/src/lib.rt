@@ -165,7 +165,7 @@ impl Tables {
         let q = self.queue;
         let e = self.events;
         let s = self.storage;
-        let left = family::ending::end_tasks(all, n, last);
+        let left = subtasks::ending::end_tasks(all, n, last);
         let entries = locks::ending::sweep(q, left);
         let tasks = locks::waking::wake(entries, left);
         let blocks = signals::ending::sweep(e, left);

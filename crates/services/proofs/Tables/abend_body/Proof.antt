@@ -9,13 +9,6 @@ use Rattle.services.proofs.Abending.{abend-out, abend-goes, abends-step
 use borrow.Author.Needs.{needs}
 use Rattle.services.proofs.Tables.abend_body.Statement.{statement}
 use Rattle.services.proofs.Tables.abend_body.Tie as tie
-use Rattle.services.proofs.Tables.abend_body.Reads as reads
-use Rattle.services.proofs.Tables.abend_body.Lts as lts
-use Rattle.kinds.proofs.tasks.Task.code_good.Reads as code-good-reads
-use Rattle.services.proofs.Tables.done.Reads as done-reads
-use Rattle.services.proofs.Tables.ended.Reads as ended-reads
-use Rattle.services.proofs.Tables.over_with.Reads as over-with-reads
-use Rattle.services.proofs.Tables.refused.Reads as refused-reads
 
 code-good-requires : tie.Need-code-good-requires
 code-good-requires c κs = search needs

@@ -9,11 +9,6 @@ use Rattle.services.proofs.Glue.{gate-admits, at-open, at-shut}
 use borrow.Author.Needs.{needs}
 use Rattle.services.proofs.Tables.attach.Statement.{statement}
 use Rattle.services.proofs.Tables.attach.Tie as tie
-use Rattle.services.proofs.Tables.attach.Reads as reads
-use Rattle.services.proofs.Tables.attach.Lts as lts
-use Rattle.services.proofs.Tables.attach_body.Reads as attach-body-reads
-use Rattle.services.proofs.Tables.gate.Reads as gate-reads
-use Rattle.services.proofs.Tables.refused.Reads as refused-reads
 
 gate-requires : tie.Need-gate-requires
 gate-requires c κs = search needs

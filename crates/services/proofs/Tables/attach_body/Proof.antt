@@ -8,12 +8,6 @@ use Rattle.services.proofs.Glue.{admitted-packed, on-go, on-refuse, on-
 use borrow.Author.Needs.{needs}
 use Rattle.services.proofs.Tables.attach_body.Statement.{statement}
 use Rattle.services.proofs.Tables.attach_body.Tie as tie
-use Rattle.services.proofs.Tables.attach_body.Reads as reads
-use Rattle.services.proofs.Tables.attach_body.Lts as lts
-use Rattle.family.proofs.attach.attach_verdict.Reads as attach-verdict-reads
-use Rattle.services.proofs.Tables.attach_done.Reads as attach-done-reads
-use Rattle.services.proofs.Tables.failed.Reads as failed-reads
-use Rattle.services.proofs.Tables.refused.Reads as refused-reads
 
 attach-verdict-requires : tie.Need-attach-verdict-requires
 attach-verdict-requires c κs = search needs

@@ -10,13 +10,6 @@ use Rattle.services.proofs.Attaching.{attached, found}
 use borrow.Author.Needs.{needs}
 use Rattle.services.proofs.Tables.attach_done.Statement.{statement}
 use Rattle.services.proofs.Tables.attach_done.Tie as tie
-use Rattle.services.proofs.Tables.attach_done.Reads as reads
-use Rattle.services.proofs.Tables.attach_done.Lts as lts
-use Rattle.family.proofs.at.Reads as at-reads
-use Rattle.family.proofs.attach.new_task.Reads as new-task-reads
-use Rattle.family.proofs.choice.lowest_free.Reads as lowest-free-reads
-use Rattle.family.proofs.with_place.Reads as with-place-reads
-use Rattle.services.proofs.Tables.done.Reads as done-reads
 
 lowest-free-requires : tie.Need-lowest-free-requires
 lowest-free-requires c κs = search needs

@@ -6,12 +6,6 @@ use Rattle.services.proofs.Glue.{admitted-packed, on-go, on-refuse, on-
 use borrow.Author.Needs.{needs}
 use Rattle.services.proofs.Tables.detach_body.Statement.{statement}
 use Rattle.services.proofs.Tables.detach_body.Tie as tie
-use Rattle.services.proofs.Tables.detach_body.Reads as reads
-use Rattle.services.proofs.Tables.detach_body.Lts as lts
-use Rattle.family.proofs.verdicts.detach_verdict.Reads as detach-verdict-reads
-use Rattle.services.proofs.Tables.detach_done.Reads as detach-done-reads
-use Rattle.services.proofs.Tables.failed.Reads as failed-reads
-use Rattle.services.proofs.Tables.refused.Reads as refused-reads
 
 detach-verdict-requires : tie.Need-detach-verdict-requires
 detach-verdict-requires c κs = search needs

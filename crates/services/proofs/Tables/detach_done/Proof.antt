@@ -9,11 +9,6 @@ use Rattle.services.proofs.Glue.{admitted-packed, admitted-running}
 use borrow.Author.Needs.{needs}
 use Rattle.services.proofs.Tables.detach_done.Statement.{statement}
 use Rattle.services.proofs.Tables.detach_done.Tie as tie
-use Rattle.services.proofs.Tables.detach_done.Reads as reads
-use Rattle.services.proofs.Tables.detach_done.Lts as lts
-use Rattle.kinds.proofs.tasks.Task.free.Reads as free-reads
-use Rattle.services.proofs.Tables.done.Reads as done-reads
-use Rattle.services.proofs.Tables.without.Reads as without-reads
 
 free-requires : tie.Need-free-requires
 free-requires c κs = search needs

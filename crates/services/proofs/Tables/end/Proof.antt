@@ -6,11 +6,6 @@ use Rattle.services.proofs.Glue.{gate-admits, at-open, at-shut}
 use borrow.Author.Needs.{needs}
 use Rattle.services.proofs.Tables.end.Statement.{statement}
 use Rattle.services.proofs.Tables.end.Tie as tie
-use Rattle.services.proofs.Tables.end.Reads as reads
-use Rattle.services.proofs.Tables.end.Lts as lts
-use Rattle.services.proofs.Tables.end_body.Reads as end-body-reads
-use Rattle.services.proofs.Tables.gate.Reads as gate-reads
-use Rattle.services.proofs.Tables.refused.Reads as refused-reads
 
 gate-requires : tie.Need-gate-requires
 gate-requires c κs = search needs

@@ -6,12 +6,6 @@ use Rattle.services.proofs.Glue.{admitted-packed, on-go, on-refuse, on-
 use borrow.Author.Needs.{needs}
 use Rattle.services.proofs.Tables.end_body.Statement.{statement}
 use Rattle.services.proofs.Tables.end_body.Tie as tie
-use Rattle.services.proofs.Tables.end_body.Reads as reads
-use Rattle.services.proofs.Tables.end_body.Lts as lts
-use Rattle.family.proofs.verdicts.end_verdict.Reads as end-verdict-reads
-use Rattle.services.proofs.Tables.end_done.Reads as end-done-reads
-use Rattle.services.proofs.Tables.failed.Reads as failed-reads
-use Rattle.services.proofs.Tables.refused.Reads as refused-reads
 
 end-verdict-requires : tie.Need-end-verdict-requires
 end-verdict-requires c κs = search needs

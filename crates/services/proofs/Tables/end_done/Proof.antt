@@ -4,10 +4,6 @@ use Rattle.rules.specs.End.{endDone}
 use borrow.Author.Needs.{needs}
 use Rattle.services.proofs.Tables.end_done.Statement.{statement}
 use Rattle.services.proofs.Tables.end_done.Tie as tie
-use Rattle.services.proofs.Tables.end_done.Reads as reads
-use Rattle.services.proofs.Tables.end_done.Lts as lts
-use Rattle.services.proofs.Tables.done.Reads as done-reads
-use Rattle.services.proofs.Tables.ended.Reads as ended-reads
 
 ended-requires : tie.Need-ended-requires
 ended-requires c κs = (c .pre)

@@ -11,13 +11,6 @@ use Rattle.services.proofs.Endings.{ends-step, ends-task, ecb-place, ke
 use borrow.Author.Needs.{needs}
 use Rattle.services.proofs.Tables.ended.Statement.{statement}
 use Rattle.services.proofs.Tables.ended.Tie as tie
-use Rattle.services.proofs.Tables.ended.Reads as reads
-use Rattle.services.proofs.Tables.ended.Lts as lts
-use Rattle.family.proofs.at.Reads as at-reads
-use Rattle.kinds.proofs.tasks.Task.free.Reads as free-reads
-use Rattle.services.proofs.Tables.kept_as_ended.Reads as kept-as-ended-reads
-use Rattle.services.proofs.Tables.over_with.Reads as over-with-reads
-use Rattle.services.proofs.Tables.without.Reads as without-reads
 
 over-with-requires : tie.Need-over-with-requires
 over-with-requires c κs = search needs

@@ -7,10 +7,6 @@ use Rattle.services.specs.Kept.{stepOf, tablesOf}
 use borrow.Author.Needs.{needs}
 use Rattle.services.proofs.Tables.failed.Statement.{statement}
 use Rattle.services.proofs.Tables.failed.Tie as tie
-use Rattle.services.proofs.Tables.failed.Reads as reads
-use Rattle.services.proofs.Tables.failed.Lts as lts
-use Rattle.kinds.proofs.replies.Fault.number.Reads as number-reads
-use Rattle.services.proofs.Tables.ended.Reads as ended-reads
 
 number-requires : tie.Need-number-requires
 number-requires c κs = search needs

@@ -7,11 +7,6 @@ use Rattle.services.specs.declared.Tables.{Tables}
 use borrow.Author.Needs.{needs}
 use Rattle.services.proofs.Tables.kept_as_ended.Statement.{statement}
 use Rattle.services.proofs.Tables.kept_as_ended.Tie as tie
-use Rattle.services.proofs.Tables.kept_as_ended.Reads as reads
-use Rattle.services.proofs.Tables.kept_as_ended.Lts as lts
-use Rattle.kinds.proofs.tasks.Task.with_condition.Reads as with-condition-reads
-use Rattle.services.proofs.Tables.posted.Reads as posted-reads
-use Rattle.services.proofs.Tables.without.Reads as without-reads
 
 with-condition-requires : tie.Need-with-condition-requires
 with-condition-requires c κs = search needs

@@ -5,9 +5,6 @@ use Rattle.services.specs.Kept.{withSignals}
 use borrow.Author.Needs.{needs}
 use Rattle.services.proofs.Tables.posted.Statement.{statement}
 use Rattle.services.proofs.Tables.posted.Tie as tie
-use Rattle.services.proofs.Tables.posted.Reads as reads
-use Rattle.services.proofs.Tables.posted.Lts as lts
-use Rattle.signals.proofs.post.Reads as post-reads
 
 post-requires : tie.Need-post-requires
 post-requires c κs = (c .before .before .pre)

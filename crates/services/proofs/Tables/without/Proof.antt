@@ -9,12 +9,6 @@ use Rattle.services.proofs.Endings.{left-tables}
 use borrow.Author.Needs.{needs}
 use Rattle.services.proofs.Tables.without.Statement.{statement}
 use Rattle.services.proofs.Tables.without.Tie as tie
-use Rattle.services.proofs.Tables.without.Reads as reads
-use Rattle.services.proofs.Tables.without.Lts as lts
-use Rattle.family.proofs.ending.end_tasks.Reads as end-tasks-reads
-use Rattle.holdings.proofs.sweep.Reads as sweep-reads
-use Rattle.locks.proofs.ending.sweep.Reads as ending-sweep-reads
-use Rattle.locks.proofs.waking.wake.Reads as wake-reads
 use Rattle.signals.proofs.ending.sweep.Reads as ending-sweep-reads′
 
 end-tasks-requires : tie.Need-end-tasks-requires

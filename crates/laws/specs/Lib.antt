@@ -26,6 +26,7 @@ pub mod Admitted
 pub mod Kept
 pub mod KeptTasks
 pub mod Waiting
+pub mod KeptQueue
 pub mod Attaching
 pub mod Lowest
 pub mod Rooms

@@ -77,7 +77,7 @@ shut-open : {A : Type 0} (why : Refusal) → Shut why ≡ Open → A
 shut-open why e = absurd (let z : _≡_ {A = ℕ} 0 1 = cc in omega arith)
 
 module _ (t : Tables) (k : Step → Gate) where
-  gate-cases : (b : Bool) → soundb t ≡ b → gated t k ≡ pick b (k (stepOf t)) (Shut Unsound)
+  pub gate-cases : (b : Bool) → soundb t ≡ b → gated t k ≡ pick b (k (stepOf t)) (Shut Unsound)
   unfolding gated
   gate-cases b e = rw e
 

@@ -8,14 +8,16 @@ use Rattle.kinds.specs.declared.numbers.TaskNumber.{TaskNumber}
 use Rattle.kinds.specs.declared.replies.Refusal.the-variants.{Unsound}
 use Rattle.kinds.specs.declared.replies.Gate.{Gate}
 use Rattle.kinds.specs.declared.replies.Gate.the-variants.{Open, Shut}
+use Rattle.kinds.specs.declared.replies.Verdict.{Verdict}
 use mathlib.Core.List.{List}
 use Rattle.rules.specs.Steps.{Step, Outcome, Served, refused, keptBy, untouched}
 use Rattle.rules.specs.Events.{signalled}
 use Rattle.rules.specs.Sound.{soundStep}
-use Rattle.rules.specs.Admission.{gateOf, openGate}
+use Rattle.rules.specs.Admission.{gateOf, openGate, settled, codesThrough}
 use Rattle.family.specs.Families.{familyOf}
 use Rattle.family.specs.declared.Family.{Family}
 use Rattle.events.specs.declared.Events.{Events}
+use Rattle.queue.specs.declared.Queue.{Queue}
 use Rattle.queue.specs.Queues.{live, stored, packedb, Packed as PackedQueue}
 use Rattle.events.specs.Blocks.{eventsOf}
 use Rattle.storage.specs.Stored.{live as liveAreas, stored as storedAreas, packedb as packedAreas, Packed as PackedAreas}
@@ -51,6 +53,10 @@ pub record Packed (t : Tables) : Type 0 where
 abbrev pub withFamily : Tables → Family → Tables
 withFamily t f = record { over = t .over; code = t .code; family = f; queue = t .queue; events = t .events; storage = t .storage }
 
+-- with another queue and other tasks
+abbrev pub withQueue : Tables → Family → Queue → Tables
+withQueue t f q = record { over = t .over; code = t .code; family = f; queue = q; events = t .events; storage = t .storage }
+
 -- with other ECBs and tasks
 abbrev pub withSignals : Tables → Events → Family → Tables
 withSignals t e f = record { over = t .over; code = t .code; family = f; queue = t .queue; events = e; storage = t .storage }
@@ -81,6 +87,10 @@ servedBy o = record { outcome = keptBy tablesOf (o .outcome); codes = o .codes }
 
 unfoldable pub answeredWith : Tables → List ℕ → (Step → List ℕ → Served Step) → Served Tables
 answeredWith t area f = pick (soundb t) (servedBy (f (stepOf t) area)) (untouched area (refused Unsound t))
+
+-- a coded service of an admitted caller: only where the verdict is to go on are codes written
+abbrev pub settledWith : Verdict → Step → TaskNumber → List ℕ → Served Step → Served Step
+settledWith v s c area o = record { outcome = settled v s c (o .outcome); codes = codesThrough Open v area (o .codes) }
 
 -- a gate, with 100 before it
 unfoldable pub gated : Tables → (Step → Gate) → Gate

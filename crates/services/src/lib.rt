@@ -2,12 +2,15 @@
 pub mod abend;
 pub mod attach;
 pub mod clear;
+pub mod deq;
 pub mod detach;
 pub mod dispatch;
 pub mod end;
+pub mod enq;
 pub mod fresh;
 pub mod post;
 
+use asks::codes::Codes;
 use events::Events;
 use family::Family;
 use kinds::Condition;
@@ -22,12 +25,15 @@ use kinds::TaskNumber;
 use queue::Queue;
 use storage::Storage;
 ghost use mathlib.Core.Path.{_≡_};
-ghost use mathlib.Core.Bool.{false};
+ghost use mathlib.Core.Bool.{true, false};
 ghost use Prim.Native.Nat.{_≤_};
-ghost use Rattle.kinds.specs.Limits.{highestEcb};
+ghost use lib.ListN.{length, take};
+ghost use Rattle.lists.specs.Pick.{pick};
+ghost use Rattle.kinds.specs.Limits.{highestEcb, longestList};
 ghost use Rattle.kinds.specs.Tasks.{isLive, withCondition};
 ghost use Rattle.kinds.specs.declared.tasks.Condition.the-variants.{Ended};
-ghost use Rattle.rules.specs.Steps.{refused as refusedOf, done as doneOf, keptBy, overStep};
+ghost use Rattle.rules.specs.Codes.{writtenOn};
+ghost use Rattle.rules.specs.Steps.{refused as refusedOf, done as doneOf, four as fourOf, keptBy, overStep};
 ghost use Rattle.rules.specs.Ending.{endTasks, leftBy, ended as endedOf, failing};
 ghost use Rattle.rules.specs.Admission.{admitted};
 ghost use Rattle.laws.specs.Running.{Running};
@@ -61,6 +67,17 @@ fn admit(over: bool, live: bool, waits: bool) -> Gate
         return Gate::Shut(Refusal::Waits);
     }
     Gate::Open
+}
+
+// The first n codes go to the front of the area if codes are due, and else no byte changes.
+fn write_due(due: bool, k: Codes, n: u32, area: &mut [u8])
+    requires { ⌜ (n ≤ longestList) × (due ≡ true → n ≤ length (now area)) ⌝ }
+    ensures { λ _. ⌜ now (area .exit) ≡ pick due (writtenOn (take n (k .bytes)) (now (area .entry))) (now (area .entry)) ⌝ }
+{
+    if !due {
+        return;
+    }
+    asks::codes::write(k, n, area);
 }
 
 impl Tables {
@@ -154,6 +171,25 @@ impl Tables {
             tables: self,
             reply: Reply::Done(value),
         }
+    }
+
+    fn four(self) -> Answer
+        ensures { λ r. ⌜ said r ≡ fourOf self ⌝ }
+    {
+        Answer {
+            tables: self,
+            reply: Reply::Four,
+        }
+    }
+
+    // 0 if every code is 0, else 4.
+    fn coded(self, zero: bool) -> Answer
+        ensures { λ r. ⌜ said r ≡ pick zero (doneOf 0 self) (fourOf self) ⌝ }
+    {
+        if zero {
+            return self.done(0);
+        }
+        self.four()
     }
 
     // The one ending. Task n and all below it end: n's place becomes `last`, and what belonged to those who are live no more goes with them.

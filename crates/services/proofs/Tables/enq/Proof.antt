@@ -1,0 +1,38 @@
+use mathlib.Core.List.{List}
+use Prim.Native.Nat.{ℕ}
+use Rattle.names.specs.Named.{namesIn}
+use Rattle.rules.specs.Steps.{Step}
+use Rattle.rules.specs.Enq.{enqVerdict}
+use Rattle.services.specs.Coded.{enqServed}
+use Rattle.services.proofs.Glue.{gate-admits}
+use Rattle.services.proofs.Coded.{coded-open, coded-shut}
+use borrow.Author.Needs.{needs}
+use Rattle.services.proofs.Tables.enq.Statement.{statement}
+use Rattle.services.proofs.Tables.enq.Tie as tie
+
+gate-requires : tie.Need-gate-requires
+gate-requires c κs = search needs
+
+enum-known-why : tie.Need-enum-known-why
+enum-known-why c = search needs
+
+refused-requires : tie.Need-refused-requires
+refused-requires c κs = search needs
+
+enum-told : tie.Need-enum-told
+enum-told c = search needs
+
+enq-body-requires : tie.Need-enq-body-requires
+enq-body-requires c κs = gate-admits ((c .before .before .before .before .before .args) .self) ((c .before .before .before .before .before .args) .caller) _ ((c .before .before .before .gate) .ensures) (search needs)
+
+returns : tie.Need-returns
+returns c = coded-shut ((c .before .before .before .before .before .before .args) .self) ((c .before .before .before .before .before .before .args) .caller) ((c .before .before .before .before .before .before .args) .codes .now) (λ (s : Step) (a : List ℕ). enqVerdict (s .queue) ((c .before .before .before .before .before .before .args) .caller) ((c .before .before .before .before .before .before .args) .ret) (namesIn ((c .before .before .before .before .before .before .args) .names)) a) (λ (s : Step) (a : List ℕ). enqServed s ((c .before .before .before .before .before .before .args) .caller) ((c .before .before .before .before .before .before .args) .ret) (namesIn ((c .before .before .before .before .before .before .args) .names)) a) _ _ _ ((c .before .before .before .before .gate) .ensures) ((c .before .before .why) .given .1) ((c .refused) .ensures)
+
+same-length : tie.Need-same-length
+same-length c = search needs
+
+returns-2 : tie.Need-returns-2
+returns-2 c = coded-open ((c .before .before .before .before .before .before .before .before .args) .self) ((c .before .before .before .before .before .before .before .before .args) .caller) ((c .before .before .before .before .before .before .before .before .args) .codes .now) (λ (s : Step) (a : List ℕ). enqVerdict (s .queue) ((c .before .before .before .before .before .before .before .before .args) .caller) ((c .before .before .before .before .before .before .before .before .args) .ret) (namesIn ((c .before .before .before .before .before .before .before .before .args) .names)) a) (λ (s : Step) (a : List ℕ). enqServed s ((c .before .before .before .before .before .before .before .before .args) .caller) ((c .before .before .before .before .before .before .before .before .args) .ret) (namesIn ((c .before .before .before .before .before .before .before .before .args) .names)) a) _ (gate-admits ((c .before .before .before .before .before .before .before .before .args) .self) ((c .before .before .before .before .before .before .before .before .args) .caller) _ ((c .before .before .before .before .before .before .gate) .ensures) (search needs)) ((c .before .before .enq-body) .ensures)
+
+pub enq-spec : {M : Type 1} → statement M
+enq-spec = tie.close (tie.spec gate-requires enum-known-why refused-requires enum-told enq-body-requires returns same-length returns-2)

@@ -18,7 +18,9 @@ use Rattle.kinds.proofs.Once.{reply-once}
 use Rattle.kinds.specs.declared.numbers.TaskNumber.{TaskNumber}
 use Rattle.kinds.specs.declared.numbers.EcbNumber.{EcbNumber}
 use Rattle.kinds.specs.declared.tasks.MaybeEcb.{MaybeEcb}
-use Rattle.rules.specs.Steps.{Step, Outcome, keptBy}
+use Rattle.kinds.specs.declared.requests.Ret.{Ret}
+use Rattle.kinds.specs.declared.requests.DeqRet.{DeqRet}
+use Rattle.rules.specs.Steps.{Step, Outcome, Served, keptBy}
 use Rattle.rules.specs.SoundQueue.{queueFits, entryNamesGood}
 use Rattle.rules.specs.SoundAreas.{areasFit}
 use Rattle.rules.specs.Sound.{overGood, runningGood, soundStep}
@@ -26,6 +28,9 @@ use Rattle.rules.specs.Attach.{attachOf}
 use Rattle.rules.specs.Detach.{detachOf}
 use Rattle.rules.specs.End.{endOf}
 use Rattle.rules.specs.Abend.{abendOf}
+use Rattle.rules.specs.Names.{Names}
+use Rattle.rules.specs.Enq.{enqOf}
+use Rattle.rules.specs.Deq.{deqOf}
 use Rattle.rules.specs.Clear.{clearOf}
 use Rattle.rules.specs.Post.{postOf}
 use Rattle.rules.specs.Dispatch.{dispatchOf}
@@ -35,12 +40,13 @@ use Rattle.laws.specs.Failing.{Sound}
 use Rattle.laws.specs.Kept.{clear-sound, post-sound, dispatch-sound, fresh-sound}
 use Rattle.laws.specs.KeptTasks.{end-sound, abend-sound, detach-sound}
 use Rattle.laws.specs.Attaching.{attach-sound}
+use Rattle.laws.specs.KeptQueue.{enq-sound, deq-sound}
 use Rattle.queue.specs.Queues.{stored, packedb}
 use Rattle.queue.proofs.Views.{live-stored}
 use Rattle.queue.proofs.Passes.{stored-passes as queue-passes}
 use Rattle.storage.specs.Stored.{stored as storedAreas, packedb as packedAreas}
 use Rattle.storage.specs.Kept.{live-stored as live-areas, stored-passes as areas-pass}
-use Rattle.services.specs.Kept.{stepOf, tablesOf, said, soundb, answered}
+use Rattle.services.specs.Kept.{stepOf, tablesOf, said, saidWith, servedBy, soundb, answered, answeredWith}
 use Rattle.services.specs.declared.Tables.{Tables}
 use Rattle.services.specs.declared.Answer.{Answer}
 use Rattle.services.proofs.Glue.{sound-step}
@@ -134,6 +140,24 @@ end-leaves-sound t c code h = answered-sound t (λ s. endOf s c code) h (λ s k.
 pub abend-leaves-sound : (t : Tables) (c : TaskNumber) (code : ℕ) (step : Bool) → soundb t ≡ true → soundb (answered t (λ s. abendOf s c code step) .tables) ≡ true
 abend-leaves-sound t c code step h = answered-sound t (λ s. abendOf s c code step) h (λ s k. abend-sound s c code step k)
 
+-- with a codes area
+module _ (t : Tables) (area : List ℕ) (f : Step → List ℕ → Served Step) (h : soundb t ≡ true) where
+  served-is : answeredWith t area f ≡ servedBy (f (stepOf t) area)
+  unfolding answeredWith
+  served-is = pick-true (soundb t) _ _ h
+
+  pub served-sound : ((s : Step) → Sound s → Sound (f s area .outcome .tables)) → soundb (answeredWith t area f .outcome .tables) ≡ true
+  served-sound k =
+      ap (λ (o : Served Tables). soundb (o .outcome .tables)) served-is ∙ sound-kept (f (stepOf t) area .outcome .tables) (k (stepOf t) (sound-step t h))
+
+pub enq-leaves-sound : (t : Tables) (c : TaskNumber) (ret : Ret) (l : Names) (area : List ℕ) → soundb t ≡ true
+    → soundb (answeredWith t area (λ s a. enqOf s c ret l a) .outcome .tables) ≡ true
+enq-leaves-sound t c ret l area h = served-sound t area (λ s a. enqOf s c ret l a) h (λ s k. enq-sound s c ret l area k)
+
+pub deq-leaves-sound : (t : Tables) (c : TaskNumber) (ret : DeqRet) (l : Names) (area : List ℕ) → soundb t ≡ true
+    → soundb (answeredWith t area (λ s a. deqOf s c ret l a) .outcome .tables) ≡ true
+deq-leaves-sound t c ret l area h = served-sound t area (λ s a. deqOf s c ret l a) h (λ s k. deq-sound s c ret l area k)
+
 pub fresh-leaves-sound : (limit dispatching : ℕ) → soundb (keptBy tablesOf (freshOf limit dispatching) .tables) ≡ true
 fresh-leaves-sound limit dispatching = sound-kept (freshOf limit dispatching .tables) (fresh-sound limit dispatching)
 
@@ -145,3 +169,7 @@ answer-once a b e = λ i. record {
   tables = e i .tables;
   reply = reply-once (a .reply) (b .reply) (ap (λ (o : Outcome Tables). o .number) e) (ap (λ (o : Outcome Tables). o .besides) e) i;
 }
+
+-- and the codes area is determined byte by byte
+pub served-once : (a b : Answer) (p q : List ℕ) → saidWith a p ≡ saidWith b q → (a ≡ b) × (p ≡ q)
+served-once a b p q e = (answer-once a b (ap (λ (o : Served Tables). o .outcome) e), ap (λ (o : Served Tables). o .codes) e)

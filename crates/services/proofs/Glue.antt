@@ -10,6 +10,7 @@ use Rattle.kinds.specs.Ranges.{ecbGood, postCodeGood, priorityGood}
 use Rattle.kinds.specs.Tasks.{isLive, waits}
 use Rattle.kinds.specs.declared.tasks.Task.{Task}
 use Rattle.kinds.specs.declared.ecbs.Ecb.{Ecb}
+use Rattle.kinds.specs.declared.areas.Area.{Area}
 use Rattle.kinds.specs.declared.numbers.EcbNumber.{EcbNumber}
 use Rattle.kinds.specs.declared.numbers.TaskNumber.{TaskNumber}
 use Rattle.kinds.specs.declared.replies.Refusal.{Refusal}
@@ -19,7 +20,7 @@ use Rattle.kinds.specs.declared.replies.Gate.{Gate}
 use Rattle.kinds.specs.declared.replies.Gate.the-variants.{Open, Shut}
 use Rattle.kinds.specs.declared.replies.Verdict.{Verdict}
 use Rattle.kinds.specs.declared.replies.Verdict.the-variants.{Go, Refuse, Fail}
-use Rattle.rules.specs.Steps.{Step, Outcome, refused, done, keptBy, withEcbs, overStep}
+use Rattle.rules.specs.Steps.{Step, Outcome, refused, done, keptBy, withEcbs, withAreas, overStep}
 use Rattle.rules.specs.Fresh.{freshStep, freshOf}
 use Rattle.rules.specs.Ending.{failing}
 use Rattle.rules.specs.Family.{place}
@@ -33,11 +34,11 @@ use Rattle.events.specs.Blocks.{eventsOf}
 use Rattle.soundness.specs.Rules.{runningRules, overRules}
 use Rattle.queue.specs.Queues.{live, packedb}
 use Rattle.queue.proofs.Views.{packed-kept as queue-kept}
-use Rattle.storage.specs.Stored.{live as liveAreas, packedb as packedAreas}
+use Rattle.storage.specs.Stored.{live as liveAreas, stored as storedAreas, packedb as packedAreas}
 use Rattle.storage.specs.Kept.{packed-kept as areas-kept}
 use Rattle.laws.specs.Running.{Running, running-parts}
 use Rattle.laws.specs.Admitted.{open-running}
-use Rattle.services.specs.Kept.{Packed, Admitted, stepOf, tablesOf, withSignals, soundb, answered, gated, gateAt}
+use Rattle.services.specs.Kept.{Packed, Admitted, stepOf, tablesOf, withSignals, withStorage, soundb, answered, gated, gateAt}
 use Rattle.services.specs.declared.Tables.{Tables}
 
 -- SOUND TABLES KEEP THEIR STEP
@@ -187,6 +188,16 @@ put-signals t ts es p = λ i. record {
   queue = p .queue .form i;
   events = eventsOf es;
   storage = p .storage .form i;
+}
+
+pub put-areas : (t : Tables) (l : List Area) → Packed t → withStorage t (storedAreas l) ≡ tablesOf (withAreas (stepOf t) l)
+put-areas t l p = λ i. record {
+  over = t .over;
+  code = t .code;
+  family = t .family;
+  queue = p .queue .form i;
+  events = t .events;
+  storage = storedAreas l;
 }
 
 -- A FRESH START

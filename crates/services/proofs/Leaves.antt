@@ -17,6 +17,7 @@ use Rattle.lists.specs.Bools.{both}
 use Rattle.kinds.proofs.Once.{reply-once}
 use Rattle.kinds.specs.declared.numbers.TaskNumber.{TaskNumber}
 use Rattle.kinds.specs.declared.numbers.EcbNumber.{EcbNumber}
+use Rattle.kinds.specs.declared.numbers.Address.{Address}
 use Rattle.kinds.specs.declared.tasks.MaybeEcb.{MaybeEcb}
 use Rattle.kinds.specs.declared.requests.Ret.{Ret}
 use Rattle.kinds.specs.declared.requests.DeqRet.{DeqRet}
@@ -34,6 +35,10 @@ use Rattle.rules.specs.Deq.{deqOf}
 use Rattle.rules.specs.Clear.{clearOf}
 use Rattle.rules.specs.Post.{postOf}
 use Rattle.rules.specs.Dispatch.{dispatchOf}
+use Rattle.rules.specs.Events.{Ecbs}
+use Rattle.rules.specs.Wait.{waitOf}
+use Rattle.rules.specs.Getmain.{getmainOf}
+use Rattle.rules.specs.Freemain.{freemainOf}
 use Rattle.rules.specs.Fresh.{freshOf}
 use Rattle.laws.specs.Running.{Running, running-parts}
 use Rattle.laws.specs.Failing.{Sound}
@@ -41,6 +46,8 @@ use Rattle.laws.specs.Kept.{clear-sound, post-sound, dispatch-sound, fresh-soun
 use Rattle.laws.specs.KeptTasks.{end-sound, abend-sound, detach-sound}
 use Rattle.laws.specs.Attaching.{attach-sound}
 use Rattle.laws.specs.KeptQueue.{enq-sound, deq-sound}
+use Rattle.laws.specs.Waiting.{wait-sound}
+use Rattle.laws.specs.KeptAreas.{getmain-sound, freemain-sound}
 use Rattle.queue.specs.Queues.{stored, packedb}
 use Rattle.queue.proofs.Views.{live-stored}
 use Rattle.queue.proofs.Passes.{stored-passes as queue-passes}
@@ -157,6 +164,19 @@ enq-leaves-sound t c ret l area h = served-sound t area (λ s a. enqOf s c ret l
 pub deq-leaves-sound : (t : Tables) (c : TaskNumber) (ret : DeqRet) (l : Names) (area : List ℕ) → soundb t ≡ true
     → soundb (answeredWith t area (λ s a. deqOf s c ret l a) .outcome .tables) ≡ true
 deq-leaves-sound t c ret l area h = served-sound t area (λ s a. deqOf s c ret l a) h (λ s k. deq-sound s c ret l area k)
+
+pub wait-leaves-sound : (t : Tables) (c : TaskNumber) (l : Ecbs) (n : ℕ) → soundb t ≡ true → soundb (answered t (λ s. waitOf s c l n) .tables) ≡ true
+wait-leaves-sound t c l n h = answered-sound t (λ s. waitOf s c l n) h (λ s k. wait-sound s c l n k)
+
+pub getmain-leaves-sound : (t : Tables) (c : TaskNumber) (bytes subpool : ℕ) (conditional : Bool) → soundb t ≡ true
+    → soundb (answered t (λ s. getmainOf s c bytes subpool conditional) .tables) ≡ true
+getmain-leaves-sound t c bytes subpool conditional h =
+    answered-sound t (λ s. getmainOf s c bytes subpool conditional) h (λ s k. getmain-sound s c bytes subpool conditional k)
+
+pub freemain-leaves-sound : (t : Tables) (c : TaskNumber) (address : Address) (bytes subpool : ℕ) → soundb t ≡ true
+    → soundb (answered t (λ s. freemainOf s c address bytes subpool) .tables) ≡ true
+freemain-leaves-sound t c address bytes subpool h =
+    answered-sound t (λ s. freemainOf s c address bytes subpool) h (λ s k. freemain-sound s c address bytes subpool k)
 
 pub fresh-leaves-sound : (limit dispatching : ℕ) → soundb (keptBy tablesOf (freshOf limit dispatching) .tables) ≡ true
 fresh-leaves-sound limit dispatching = sound-kept (freshOf limit dispatching .tables) (fresh-sound limit dispatching)

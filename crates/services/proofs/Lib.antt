@@ -2,6 +2,8 @@ pub mod Glue
 pub mod Endings
 pub mod Abending
 pub mod Attaching
+pub mod Waiting
+pub mod Storing
 pub mod Leaves
 pub mod Coded
 pub mod Releasing

@@ -3,6 +3,9 @@ use mathlib.Core.Path.{_≡_}
 use mathlib.Core.Bool.{Bool, true, false}
 use Prim.Native.Nat.{ℕ}
 use Rattle.lists.specs.Pick.{pick}
+use Rattle.lists.specs.Lists.{mapAt}
+use Rattle.kinds.specs.Tasks.{withCondition}
+use Rattle.kinds.specs.declared.tasks.Condition.the-variants.{EcbWait}
 use Rattle.kinds.specs.Replies.{numberOf, besidesOf}
 use Rattle.kinds.specs.declared.numbers.TaskNumber.{TaskNumber}
 use Rattle.kinds.specs.declared.replies.Refusal.the-variants.{Unsound}
@@ -11,7 +14,9 @@ use Rattle.kinds.specs.declared.replies.Gate.the-variants.{Open, Shut}
 use Rattle.kinds.specs.declared.replies.Verdict.{Verdict}
 use mathlib.Core.List.{List}
 use Rattle.rules.specs.Steps.{Step, Outcome, Served, refused, keptBy, untouched}
-use Rattle.rules.specs.Events.{signalled}
+use Rattle.rules.specs.Family.{place, withPlace}
+use Rattle.rules.specs.Events.{Ecbs, signalled}
+use Rattle.rules.specs.Wait.{waitSet}
 use Rattle.rules.specs.Sound.{soundStep}
 use Rattle.rules.specs.Admission.{gateOf, openGate, settled, codesThrough}
 use Rattle.family.specs.Families.{familyOf}
@@ -21,6 +26,7 @@ use Rattle.queue.specs.declared.Queue.{Queue}
 use Rattle.queue.specs.Queues.{live, stored, packedb, Packed as PackedQueue}
 use Rattle.events.specs.Blocks.{eventsOf}
 use Rattle.storage.specs.Stored.{live as liveAreas, stored as storedAreas, packedb as packedAreas, Packed as PackedAreas}
+use Rattle.storage.specs.declared.Storage.{Storage}
 use Rattle.services.specs.declared.Tables.{Tables}
 use Rattle.services.specs.declared.Answer.{Answer}
 
@@ -61,10 +67,20 @@ withQueue t f q = record { over = t .over; code = t .code; family = f; queue = q
 abbrev pub withSignals : Tables → Events → Family → Tables
 withSignals t e f = record { over = t .over; code = t .code; family = f; queue = t .queue; events = e; storage = t .storage }
 
+-- with other areas
+abbrev pub withStorage : Tables → Storage → Tables
+withStorage t s = record { over = t .over; code = t .code; family = t .family; queue = t .queue; events = t .events; storage = s }
+
 -- with ECB e posted
 abbrev pub postedIn : Tables → ℕ → ℕ → Tables
 postedIn t e code =
     withSignals t (eventsOf (signalled (t .family .places) (t .events .ecbs) e code .ecbs)) (familyOf (signalled (t .family .places) (t .events .ecbs) e code .tasks))
+
+-- with task c waiting for so many posts, and its wait bit in each ECB of l that is incomplete
+abbrev pub waitingIn : Tables → ℕ → Ecbs → ℕ → Tables
+waitingIn t c l posts =
+    withSignals t (eventsOf (mapAt (waitSet c l) 0 (t .events .ecbs)))
+    (familyOf (withPlace (t .family .places) c (withCondition (place (t .family .places) c) (EcbWait posts))))
 
 -- what an answer says, by the paper's number and value
 abbrev pub said : Answer → Outcome Tables

@@ -7,8 +7,11 @@ pub mod detach;
 pub mod dispatch;
 pub mod end;
 pub mod enq;
+pub mod freemain;
 pub mod fresh;
+pub mod getmain;
 pub mod post;
+pub mod wait;
 
 use asks::codes::Codes;
 use events::Events;
@@ -37,7 +40,7 @@ ghost use Rattle.rules.specs.Steps.{refused as refusedOf, done as doneOf, four 
 ghost use Rattle.rules.specs.Ending.{endTasks, leftBy, ended as endedOf, failing};
 ghost use Rattle.rules.specs.Admission.{admitted};
 ghost use Rattle.laws.specs.Running.{Running};
-ghost use Rattle.services.specs.Kept.{Packed, Admitted, stepOf, tablesOf, withSignals, postedIn, said, soundb, gateAt, openGateAt};
+ghost use Rattle.services.specs.Kept.{Packed, Admitted, stepOf, tablesOf, withSignals, withStorage, postedIn, said, soundb, gateAt, openGateAt};
 
 pub struct Tables {
     pub over: bool,
@@ -164,6 +167,18 @@ impl Tables {
         }
     }
 
+    // The areas are as a service leaves them.
+    fn stored(self, s: Storage, value: u32) -> Answer
+        ensures { λ r. ⌜ said r ≡ doneOf value (withStorage self s) ⌝ }
+    {
+        let mut next = self;
+        next.storage = s;
+        Answer {
+            tables: next,
+            reply: Reply::Done(value),
+        }
+    }
+
     fn done(self, value: u32) -> Answer
         ensures { λ r. ⌜ said r ≡ doneOf value self ⌝ }
     {
@@ -173,6 +188,7 @@ impl Tables {
         }
     }
 
+    // Answer 4 and 0 besides, with nothing changed.
     fn four(self) -> Answer
         ensures { λ r. ⌜ said r ≡ fourOf self ⌝ }
     {

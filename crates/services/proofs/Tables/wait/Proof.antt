@@ -1,0 +1,41 @@
+use Rattle.rules.specs.Steps.{Step}
+use Rattle.rules.specs.Admission.{gateOf}
+use Rattle.rules.specs.Wait.{waitBody}
+use Rattle.events.specs.Blocks.{ecbsIn}
+use Rattle.services.proofs.Glue.{gate-admits, at-open, at-shut}
+use borrow.Author.Needs.{needs}
+use Rattle.services.proofs.Tables.wait.Statement.{statement}
+use Rattle.services.proofs.Tables.wait.Tie as tie
+
+gate-requires : tie.Need-gate-requires
+gate-requires c κs = search needs
+
+enum-known-why : tie.Need-enum-known-why
+enum-known-why c = search needs
+
+refused-requires : tie.Need-refused-requires
+refused-requires c κs = search needs
+
+enum-told : tie.Need-enum-told
+enum-told c = search needs
+
+wait-body-requires : tie.Need-wait-body-requires
+wait-body-requires c κs = gate-admits ((c .before .before .before .args) .self) ((c .before .before .before .args) .caller) _ ((c .before .before .gate) .ensures) (search needs)
+
+returns : tie.Need-returns
+returns c = at-shut ((c .before .before .before .before .before .args) .self) (λ (s : Step). gateOf s ((c .before .before .before .before .before .args) .caller)) (λ (s : Step). waitBody s ((c .before .before .before .before .before .args) .caller) (ecbsIn ((c .before .before .before .before .before .args) .ecbs)) ((c .before .before .before .before .before .args) .count)) _ _ _ ((c .before .before .before .before .gate) .ensures) ((c .before .before .why) .given .1) ((c .refused) .ensures)
+
+returns-2 : tie.Need-returns-2
+returns-2 c = at-open ((c .before .before .before .before .args) .self) (λ (s : Step). gateOf s ((c .before .before .before .before .args) .caller)) (λ (s : Step). waitBody s ((c .before .before .before .before .args) .caller) (ecbsIn ((c .before .before .before .before .args) .ecbs)) ((c .before .before .before .before .args) .count)) _ _ ((c .before .before .before .gate) .ensures) (search needs) ((c .wait-body) .ensures)
+
+pub wait-spec : {M : Type 1} → statement M
+wait-spec =
+    tie.close
+    (tie.spec
+    gate-requires
+    enum-known-why
+    refused-requires
+    enum-told
+    wait-body-requires
+    returns
+    returns-2)

@@ -4,7 +4,7 @@ use mathlib.Core.Bool.{Bool, true, false, _&&_, false≢true}
 use mathlib.Core.List.{List}
 use Prim.Native.Nat.{ℕ, _≤_}
 use native.Mathlib.Omega.{arith}
-use lib.ListN.{length, take, length-map}
+use lib.ListN.{length, take}
 use borrow.Author.Tests.{ltb-false}
 use Rattle.lists.specs.Pick.{pick}
 use Rattle.kinds.specs.declared.numbers.TaskNumber.{TaskNumber}
@@ -13,7 +13,7 @@ use Rattle.kinds.specs.declared.replies.Refusal.{Refusal}
 use Rattle.kinds.specs.declared.replies.Refusal.the-variants.{Unsound}
 use Rattle.kinds.specs.declared.replies.Fault.{Fault}
 use Rattle.kinds.specs.declared.replies.Gate.{Gate}
-use Rattle.kinds.specs.declared.replies.Gate.the-variants.{Open, Shut}
+use Rattle.kinds.specs.declared.replies.Gate.the-variants.{Shut}
 use Rattle.kinds.specs.declared.replies.Verdict.{Verdict}
 use Rattle.kinds.specs.declared.replies.Verdict.the-variants.{Go, Refuse, Fail}
 use Rattle.names.specs.Named.{namesIn}

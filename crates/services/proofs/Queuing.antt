@@ -2,11 +2,11 @@
 use mathlib.Core.Path.{_≡_, refl, sym, ap, ap₂, _∙_}
 use mathlib.Core.Bool.{Bool, true, false, _&&_}
 use mathlib.Core.List.{List, [], _∷_, map}
-use Prim.Native.Nat.{ℕ, _+_, _≤_, _<_}
+use Prim.Native.Nat.{ℕ, _+_, _≤_}
 use native.Mathlib.Omega.{arith}
-use lib.Dec.{eqb, ltb}
+use lib.Dec.{eqb}
 use lib.ListN.{length, take, length-map}
-use borrow.Author.Tests.{ltb-false, eqb-true}
+use borrow.Author.Tests.{ltb-false}
 use Rattle.lists.specs.Pick.{pick, pick-true, pick-false, chain-and}
 use Rattle.lists.specs.Bools.{both, join}
 use Rattle.lists.specs.Lists.{every, distinct}
@@ -26,7 +26,7 @@ use Rattle.rules.specs.Control.{Entry, hasEntry, available, soleOwner}
 use Rattle.rules.specs.Family.{place, withPlace}
 use Rattle.rules.specs.Waits.{waitsBy, requeued}
 use Rattle.rules.specs.Codes.{allZero, writtenOn, tooShort}
-use Rattle.rules.specs.Steps.{Step, Outcome, done, four, keptBy}
+use Rattle.rules.specs.Steps.{Outcome, done, four, keptBy}
 use Rattle.rules.specs.Enq.{enqCode, enqCodes, enqCodesDue, queuesAll, asksShared, tooFewFree, enqVerdict, withTail, madeExclusive, enqChange, enqDone, enqWritten}
 use Rattle.laws.specs.Chains.{used-pos, used-within}
 use Rattle.laws.specs.Mothers.{fits-length}
@@ -37,7 +37,6 @@ use Rattle.family.specs.Families.{familyOf}
 use Rattle.family.specs.declared.Family.{Family}
 use Rattle.queue.specs.Queues.{slotOf, live, stored}
 use Rattle.queue.specs.declared.Queue.{Queue}
-use Rattle.asks.specs.Flagging.{flagsOf, allSet}
 use Rattle.asks.specs.Coding.{codesOf}
 use Rattle.asks.specs.declared.codes.Codes.{Codes}
 use Rattle.asks.proofs.Flagged.{asks-length}

@@ -1,5 +1,5 @@
 -- DEQ on the tables: the entries that go, the tasks that wake, and the codes. Assumes nothing.
-use mathlib.Core.Path.{_≡_, refl, sym, ap, ap₂, _∙_}
+use mathlib.Core.Path.{_≡_, ap, ap₂, _∙_}
 use mathlib.Core.Bool.{Bool, true, false, not, _&&_}
 use mathlib.Core.List.{List}
 use Prim.Native.Nat.{ℕ, _≤_}
@@ -8,14 +8,13 @@ use Rattle.lists.specs.Pick.{pick}
 use Rattle.kinds.specs.declared.numbers.TaskNumber.{TaskNumber}
 use Rattle.kinds.specs.declared.names.NameList.{NameList}
 use Rattle.kinds.specs.declared.requests.DeqRet.{DeqRet}
-use Rattle.kinds.specs.declared.tasks.Task.{Task}
 use Rattle.kinds.specs.declared.replies.Verdict.the-variants.{Go}
 use Rattle.names.specs.Named.{namesIn}
 use Rattle.rules.specs.Names.{Resource, Names, nameOf, namesOf, namesGood}
 use Rattle.rules.specs.Control.{Entry, isForOne}
 use Rattle.rules.specs.Waits.{waitsBy, requeued}
 use Rattle.rules.specs.Codes.{writtenOn, tooShort}
-use Rattle.rules.specs.Deq.{deqCode, deqCodes, deqCodesDue, unentered, deqVerdict, released, deqWritten}
+use Rattle.rules.specs.Deq.{deqCode, deqCodes, deqCodesDue, deqVerdict, released, deqWritten}
 use Rattle.laws.specs.Waking.{wakeBy}
 use Rattle.laws.specs.Requeuing.{kept-wakes}
 use Rattle.family.specs.Families.{familyOf}

@@ -21,7 +21,7 @@ ghost use Rattle.queue.specs.Queues.{live};
 ghost use Rattle.services.specs.Kept.{Admitted, stepOf, tablesOf, saidWith, servedBy, answeredWith, settledWith};
 ghost use Rattle.services.specs.Coded.{deqServed};
 
-// A code for each name, written where codes are due. They are all 0.
+// A code for each name, of the queue as it is, written where codes are due; says whether all are 0.
 fn write_codes(q: Queue, caller: TaskNumber, ret: DeqRet, names: NameList, codes: &mut [u8]) -> bool
     requires { ⌜ (q .count ≤ mostEntries) × (deqVerdict (live q) caller ret (namesIn names) (now codes) ≡ Go) ⌝ }
     ensures { λ r. ⌜ (r ≡ allZero (deqCodes ret (live q) (caller .0) (namesIn names))) × (now (codes .exit) ≡ deqWritten (live q) caller ret (namesIn names) (now (codes .entry))) ⌝ }
@@ -48,7 +48,7 @@ impl Tables {
         next
     }
 
-    // The codes are of the queue as it was.
+    // The codes are found before the entries go.
     fn deq_done(self, caller: TaskNumber, ret: DeqRet, names: NameList, codes: &mut [u8]) -> Answer
         requires { ⌜ Admitted self caller × (deqVerdict (live (self .queue)) caller ret (namesIn names) (now codes) ≡ Go) ⌝ }
         ensures { λ r. ⌜ saidWith r (now (codes .exit)) ≡ servedBy (deqServed (stepOf self) caller ret (namesIn names) (now (codes .entry))) ⌝ }

@@ -27,7 +27,7 @@ ghost use Rattle.queue.specs.Queues.{live};
 ghost use Rattle.services.specs.Kept.{Admitted, stepOf, tablesOf, saidWith, servedBy, answeredWith, settledWith};
 ghost use Rattle.services.specs.Coded.{Unhindered, enqServed};
 
-// A code for each name, written where codes are due. They are all 0.
+// A code for each name, of the queue as it is, written where codes are due; says whether all are 0.
 fn write_codes(q: Queue, caller: TaskNumber, ret: Ret, names: NameList, codes: &mut [u8]) -> bool
     requires { ⌜ (q .count ≤ mostEntries) × (enqVerdict (live q) caller ret (namesIn names) (now codes) ≡ Go) ⌝ }
     ensures { λ r. ⌜ (r ≡ allZero (enqCodes ret (live q) (caller .0) (namesIn names))) × (now (codes .exit) ≡ enqWritten (live q) caller ret (namesIn names) (now (codes .entry))) ⌝ }

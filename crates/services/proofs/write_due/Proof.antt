@@ -1,4 +1,4 @@
-use mathlib.Core.Path.{_≡_, refl}
+use mathlib.Core.Path.{refl}
 use borrow.Author.Tests.{not-true, not-false}
 use Rattle.lists.specs.Pick.{on-true, on-false}
 use borrow.Author.Needs.{needs}

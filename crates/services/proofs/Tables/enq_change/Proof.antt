@@ -1,4 +1,4 @@
-use mathlib.Core.Path.{_≡_, sym, ap, _∙_}
+use mathlib.Core.Path.{sym, ap, _∙_}
 use Rattle.kinds.specs.declared.requests.Ret.{Ret}
 use Rattle.names.specs.Named.{namesIn}
 use Rattle.names.proofs.Listed.{good-count}

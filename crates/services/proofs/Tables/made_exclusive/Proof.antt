@@ -2,7 +2,6 @@ use Rattle.names.specs.Named.{namesIn}
 use Rattle.rules.specs.Names.{namesOf}
 use Rattle.services.proofs.Glue.{admitted-packed}
 use Rattle.services.proofs.Queuing.{changed-tables}
-use borrow.Author.Needs.{needs}
 use Rattle.services.proofs.Tables.made_exclusive.Statement.{statement}
 use Rattle.services.proofs.Tables.made_exclusive.Tie as tie
 

@@ -5,7 +5,6 @@ use Rattle.rules.specs.Control.{Entry, isForOne}
 use Rattle.queue.proofs.Views.{keep-packed}
 use Rattle.services.proofs.Glue.{admitted-packed}
 use Rattle.services.proofs.Releasing.{released-tables}
-use borrow.Author.Needs.{needs}
 use Rattle.services.proofs.Tables.released.Statement.{statement}
 use Rattle.services.proofs.Tables.released.Tie as tie
 

@@ -74,9 +74,9 @@ impl Tables {
         ensures { λ r. ⌜ r ≡ tablesOf (requeued (stepOf self) (map (madeExclusive (caller .0) (namesOf (namesIn names))) (live (self .queue)))) ⌝ }
     {
         let q = self.queue;
-        let entries = queue::enq::made_exclusive(q, caller, names);
+        let changed = queue::enq::made_exclusive(q, caller, names);
         let mut next = self;
-        next.queue = entries;
+        next.queue = changed;
         next
     }
 

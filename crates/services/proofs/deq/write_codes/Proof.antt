@@ -29,7 +29,9 @@ write-due-requires c κs =
     (n, due-room _ (deqCodesDue ((c .before .before .before .before .args) .ret)) ((c .before .before .before .before .args) .codes .now) ((c .before .before .before .before .args) .names) (omega arith) (g .1) ((c .before .deq-codes-due) .ensures))
 
 all-zero-requires : tie.Need-all-zero-requires
-all-zero-requires c κs = good-count (namesIn ((c .before .before .before .before .before .before .before .args) .names)) (deq-go (live ((c .before .before .before .before .before .before .before .args) .q)) ((c .before .before .before .before .before .before .before .args) .caller) ((c .before .before .before .before .before .before .before .args) .ret) (namesIn ((c .before .before .before .before .before .before .before .args) .names)) ((c .before .before .before .before .before .before .before .args) .codes .now) ((c .before .before .before .before .before .before .before .pre) .1) .0)
+all-zero-requires c κs =
+    let n : (c .before .before .before .before .before .before .before .args) .names .count ≤ longestList = good-count (namesIn ((c .before .before .before .before .before .before .before .args) .names)) (deq-go (live ((c .before .before .before .before .before .before .before .args) .q)) ((c .before .before .before .before .before .before .before .args) .caller) ((c .before .before .before .before .before .before .before .args) .ret) (namesIn ((c .before .before .before .before .before .before .before .args) .names)) ((c .before .before .before .before .before .before .before .args) .codes .now) ((c .before .before .before .before .before .before .before .pre) .1) .0) in
+    omega arith
 
 same-length : tie.Need-same-length
 same-length c = search needs

@@ -3,6 +3,7 @@ use kinds::Address;
 use kinds::TaskNumber;
 use services::Answer;
 use services::Tables;
+ghost use mathlib.Core.Path.{_≡_};
 
 fn line(case: u64, number: u16, besides: u32) {
     io::print_decimal(1, case);
@@ -14,10 +15,13 @@ fn line(case: u64, number: u16, besides: u32) {
 }
 
 // The answer is written, and its tables come back for the next request.
-fn shown(case: u64, a: Answer) -> Tables {
+fn shown(case: u64, a: Answer) -> Tables
+    ensures { λ r. ⌜ r ≡ a .tables ⌝ }
+{
     let reply = a.reply;
+    let next = a.tables;
     line(case, reply.number(), reply.besides());
-    a.tables
+    next
 }
 
 // 7: four areas, each at the lowest address whose pages hold nobody else's.

@@ -2,10 +2,11 @@
 use mathlib.Core.Path.{_≡_, refl, sym, ap, subst, _∙_}
 use mathlib.Core.Bool.{Bool, true, false}
 use mathlib.Core.List.{List}
-use Prim.Native.Nat.{ℕ}
+use Prim.Native.Nat.{ℕ, _≤_}
 use lib.Dec.{eqb, leb}
 use native.Mathlib.Omega.{arith}
 use Rattle.lists.specs.Pick.{pick, chain-and}
+use Rattle.kinds.specs.Limits.{lowestTask, highestTask}
 use Rattle.kinds.specs.Ranges.{ecbGood, postCodeGood, priorityGood}
 use Rattle.kinds.specs.Tasks.{isLive, waits}
 use Rattle.kinds.specs.declared.tasks.Task.{Task}
@@ -37,7 +38,9 @@ use Rattle.queue.proofs.Views.{packed-kept as queue-kept}
 use Rattle.storage.specs.Stored.{live as liveAreas, stored as storedAreas, packedb as packedAreas}
 use Rattle.storage.specs.Kept.{packed-kept as areas-kept}
 use Rattle.laws.specs.Running.{Running, running-parts}
-use Rattle.laws.specs.Admitted.{open-running}
+use Rattle.laws.specs.Chains.{used-pos, used-within}
+use Rattle.laws.specs.Mothers.{fits-length}
+use Rattle.laws.specs.Admitted.{open-running, open-used}
 use Rattle.services.specs.Kept.{Packed, Admitted, stepOf, tablesOf, withSignals, withStorage, soundb, answered, gated, gateAt}
 use Rattle.services.specs.declared.Tables.{Tables}
 
@@ -129,6 +132,14 @@ module _ (t : Tables) (c : TaskNumber) (a : Admitted t c) where
 
   pub admitted-running : Running (stepOf t)
   admitted-running = running-parts (stepOf t) (sound-step t (a .sound)) (open-running (stepOf t) c (a .gate))
+
+  -- an admitted caller has a place
+  pub caller-place : (lowestTask ≤ c .0) × (c .0 ≤ highestTask)
+  caller-place =
+      let u = open-used (stepOf t) c (a .gate) in (
+        omega (arith, used-pos (t .family .places) (c .0) u),
+        omega (arith, used-within (t .family .places) (c .0) u, fits-length (t .family .places) (admitted-running .places)),
+      )
 
 -- THE VERDICT v
 

@@ -10,7 +10,7 @@ use borrow.Author.Tests.{ltb-false}
 use Rattle.lists.specs.Pick.{pick, pick-true, pick-false, chain-and}
 use Rattle.lists.specs.Bools.{both, join}
 use Rattle.lists.specs.Lists.{every, distinct}
-use Rattle.kinds.specs.Limits.{lowestTask, highestTask, mostEntries}
+use Rattle.kinds.specs.Limits.{mostEntries}
 use Rattle.kinds.specs.Ranges.{countGood}
 use Rattle.kinds.specs.Tasks.{withCondition}
 use Rattle.kinds.specs.declared.numbers.TaskNumber.{TaskNumber}
@@ -29,7 +29,6 @@ use Rattle.rules.specs.Codes.{allZero, writtenOn, tooShort}
 use Rattle.rules.specs.Steps.{Outcome, done, four, keptBy}
 use Rattle.rules.specs.Enq.{enqCode, enqCodes, enqCodesDue, queuesAll, asksShared, tooFewFree, enqVerdict, withTail, madeExclusive, enqChange, enqDone, enqWritten}
 use Rattle.laws.specs.Chains.{used-pos, used-within}
-use Rattle.laws.specs.Mothers.{fits-length}
 use Rattle.laws.specs.Admitted.{open-ready, open-used}
 use Rattle.laws.specs.Queueing.{tail-waits}
 use Rattle.laws.specs.Changing.{chng-waits}
@@ -89,14 +88,6 @@ chng-sole q c (a ∷ l) h =
     join (soleOwner q c (a .name)) (every (soleOwner q c) (map nameOf l)) (sole-code (hasEntry q c (a .name)) (soleOwner q c (a .name)) (b .0)) (chng-sole q c l (b .1))
 
 -- THE TABLES
-
--- a caller that was let in has a place
-pub caller-place : (t : Tables) (c : TaskNumber) → Admitted t c → (lowestTask ≤ c .0) × (c .0 ≤ highestTask)
-caller-place t c a =
-    let u = open-used (stepOf t) c (a .gate) in (
-      omega (arith, used-pos (t .family .places) (c .0) u),
-      omega (arith, used-within (t .family .places) (c .0) u, fits-length (t .family .places) (admitted-running t c a .places)),
-    )
 
 module _ (t : Tables) (c : TaskNumber) (a : Admitted t c) (l : Names) (g : namesGood l ≡ true) (q : Queue) (e : q ≡ stored (withTail (live (t .queue)) (c .0) l)) where
   tail-tasks : (b : Bool) → every (available (live (t .queue))) (l .asks) ≡ b

@@ -9,7 +9,7 @@ use lib.ListN.{length, length-take}
 use borrow.Author.Tests.{le-leb, lt-leb, ltb-false}
 use Rattle.lists.specs.Lists.{every, some, distinct, mapAt}
 use Rattle.lists.specs.Pick.{pick, pick-true, pick-false}
-use Rattle.kinds.specs.Limits.{lowestTask, highestTask, longestList}
+use Rattle.kinds.specs.Limits.{longestList}
 use Rattle.kinds.specs.Ranges.{ecbGood, countGood}
 use Rattle.kinds.specs.Tasks.{withCondition}
 use Rattle.kinds.specs.declared.tasks.Task.{Task}
@@ -25,9 +25,6 @@ use Rattle.rules.specs.Family.{place, withPlace}
 use Rattle.rules.specs.Events.{Ecbs, ecbsGood, ecbAt, waitBit}
 use Rattle.rules.specs.Steps.{done, keptBy}
 use Rattle.rules.specs.Wait.{waitVerdict, completeOf, waitSet, waitDone}
-use Rattle.laws.specs.Admitted.{open-used}
-use Rattle.laws.specs.Chains.{used-pos, used-within}
-use Rattle.laws.specs.Mothers.{fits-length}
 use Rattle.names.proofs.Listed.{count-few}
 use Rattle.family.specs.Families.{familyOf}
 use Rattle.family.specs.declared.Family.{Family}
@@ -35,7 +32,7 @@ use Rattle.events.specs.Blocks.{eventsOf, ecbsIn}
 use Rattle.events.specs.declared.Events.{Events}
 use Rattle.services.specs.Kept.{Admitted, stepOf, tablesOf, withSignals, waitingIn}
 use Rattle.services.specs.declared.Tables.{Tables}
-use Rattle.services.proofs.Glue.{packed-tables, admitted-running, admitted-packed, put-signals}
+use Rattle.services.proofs.Glue.{packed-tables, admitted-packed, put-signals}
 
 -- what the verdict says where it goes on
 wait-go : (es : List Ecb) (l : Ecbs) (n : ℕ) → waitVerdict es l n ≡ Go → (countGood (l .count) ≡ true) × (ltb (length (l .ecbs)) n ≡ false)
@@ -57,15 +54,6 @@ wait-few es l n h =
     let a = count-few (l .count) (g .0) in
     let b = ltb-false (length (ecbsIn l .ecbs)) n (g .1) in
     omega (arith, length-take (l .count) (map (λ (e : EcbNumber). e .0) (l .ecbs)))
-
--- an admitted caller has a place
-pub caller-place : (t : Tables) (c : TaskNumber) → Admitted t c → (lowestTask ≤ c .0) × (c .0 ≤ highestTask)
-caller-place t c a =
-    let u = open-used (stepOf t) c (a .gate) in
-    let p = used-pos (t .family .places) (c .0) u in
-    let q = used-within (t .family .places) (c .0) u in
-    let l = fits-length (t .family .places) (admitted-running t c a .places) in
-    (omega arith, omega arith)
 
 -- the tables with the caller waiting
 pub waiting-tables : (t : Tables) (c : ℕ) (l : Ecbs) (posts : ℕ) (d : Events) (x y : Task) (g : Family)

@@ -6,8 +6,8 @@ use Rattle.lists.specs.Arrays.{mapped-length}
 use Rattle.kinds.specs.Limits.{longestList}
 use Rattle.names.specs.Named.{namesIn}
 use Rattle.names.proofs.Listed.{good-count, good-legal}
-use Rattle.services.proofs.Glue.{admitted-packed}
-use Rattle.services.proofs.Queuing.{counted-room, caller-place, queued-ready, queued-waits}
+use Rattle.services.proofs.Glue.{admitted-packed, caller-place}
+use Rattle.services.proofs.Queuing.{counted-room, queued-ready, queued-waits}
 use borrow.Author.Needs.{needs}
 use Rattle.services.proofs.Tables.queued.Statement.{statement}
 use Rattle.services.proofs.Tables.queued.Tie as tie

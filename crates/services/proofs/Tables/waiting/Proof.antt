@@ -1,6 +1,7 @@
 use mathlib.Core.Path.{_∙_}
 use Rattle.events.specs.Blocks.{ecbsIn}
-use Rattle.services.proofs.Waiting.{caller-place, waiting-tables}
+use Rattle.services.proofs.Glue.{caller-place}
+use Rattle.services.proofs.Waiting.{waiting-tables}
 use borrow.Author.Needs.{needs}
 use Rattle.services.proofs.Tables.waiting.Statement.{statement}
 use Rattle.services.proofs.Tables.waiting.Tie as tie

@@ -8,3 +8,4 @@ pub mod Leaves
 pub mod Coded
 pub mod Releasing
 pub mod Queuing
+pub mod Serving

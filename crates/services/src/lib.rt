@@ -11,6 +11,7 @@ pub mod freemain;
 pub mod fresh;
 pub mod getmain;
 pub mod post;
+pub mod serve;
 pub mod wait;
 
 use asks::codes::Codes;

@@ -31,3 +31,4 @@ pub mod Attaching
 pub mod Lowest
 pub mod Rooms
 pub mod KeptAreas
+pub mod Answering

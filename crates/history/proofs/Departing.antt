@@ -1,0 +1,129 @@
+-- What a run tells of the step when tasks end: their entries go, and nobody else's. Assumes nothing.
+use mathlib.Core.Path.{_≡_, refl, sym, ap, _∙_}
+use mathlib.Core.Bool.{Bool, true, false, not, _&&_, _||_, true≢false}
+use mathlib.Core.List.{List, [], _∷_, map, map-id, append-nil}
+use Prim.Native.Nat.{ℕ, zero, suc}
+use native.Mathlib.Omega.{arith}
+use lib.Dec.{eqb}
+use lib.ListN.{getD, replicate}
+use borrow.Author.Tests.{eqb-false}
+use Rattle.lists.specs.Lists.{keep, every}
+use Rattle.lists.specs.Bools.{both, never}
+use Rattle.lists.specs.Pick.{pick}
+use Rattle.kinds.specs.Limits.{jobStepTask, highestTask}
+use Rattle.kinds.specs.Tasks.{noTask, isFree, isLive, withCondition}
+use Rattle.kinds.specs.declared.tasks.Task.{Task}
+use Rattle.kinds.specs.declared.tasks.MaybeEcb.{MaybeEcb}
+use Rattle.kinds.specs.declared.tasks.MaybeEcb.the-variants.{NoEcb, Named}
+use Rattle.kinds.specs.declared.tasks.Condition.the-variants.{Ended}
+use Rattle.rules.specs.Control.{Entry}
+use Rattle.rules.specs.Family.{place, live, used, below}
+use Rattle.rules.specs.SoundQueue.{entriesLive}
+use Rattle.rules.specs.Waits.{waitsBy}
+use Rattle.rules.specs.Events.{posted}
+use Rattle.rules.specs.Steps.{Step, overStep}
+use Rattle.rules.specs.Ending.{endTasks, entryStays, leftBy, detached, endedPlace, endPosted, ended}
+use Rattle.rules.specs.Reading.{Ends, Reading, replayed, makesOf, motherIn, endsWith}
+use Rattle.laws.specs.Wiping.{free-unused}
+use Rattle.laws.specs.Chains.{used-pos}
+use Rattle.laws.specs.Mothers.{live-exactly}
+use Rattle.laws.specs.Settling.{kindred}
+use Rattle.laws.specs.Running.{Running}
+use Rattle.laws.specs.Admitted.{live-used}
+use Rattle.history.proofs.Climbing.{ends-below}
+use Rattle.history.proofs.Heirs.{Heirs, later-heirs, kindred-heirs, posted-heirs, ended-heirs}
+use Rattle.history.proofs.Seen.{Seen, heirs-seen}
+
+-- two tests that come out alike on all that is there keep the same
+keep-among : {A : Type 0} (p f g : A → Bool) → ((x : A) → p x ≡ true → f x ≡ g x) → (l : List A) → every p l ≡ true → keep f l ≡ keep g l
+keep-among p f g h [] e = refl
+keep-among p f g h (x ∷ l) e = let b = both (p x) (every p l) e in rw (h x (b .0), keep-among p f g h l (b .1))
+
+keep-none : {A : Type 0} (l : List A) → keep (λ (x : A). false) l ≡ []
+keep-none [] = refl
+keep-none (x ∷ l) = keep-none l
+
+-- the entry is not of one who ends
+abbrev outlives : (ℕ → Bool) → Entry → Bool
+outlives who e = not (who (e .task))
+
+ends-keep : (who : ℕ → Bool) (q : List Entry) → replayed q (Ends who ∷ []) ≡ keep (outlives who) q
+ends-keep who q = append-nil (map (makesOf (Ends who)) (keep (outlives who) q)) ∙ map-id (keep (outlives who) q)
+
+-- in a step that is over nobody is left
+nobody : (k n : ℕ) → place (replicate k noTask) n ≡ noTask
+unfolding place
+nobody k zero = refl
+nobody zero (suc i) = refl
+nobody (suc k) (suc zero) = refl
+nobody (suc k) (suc (suc i)) = nobody k (suc i)
+
+over-heirs : (ts : List Task) (code : ℕ) → Heirs ts (overStep code .tasks)
+unfolding overStep
+over-heirs ts code n u = never (used (replicate highestTask noTask) n) u (free-unused (replicate highestTask noTask) n (nobody highestTask n))
+
+-- a reading when those have ended
+abbrev pub endedIn : Reading → (ℕ → Bool) → Reading
+endedIn r who = record { links = r .links; queue = replayed (r .queue) (Ends who ∷ []) }
+
+module _ (s : Step) (h : Running s) (r : Reading) (e : Seen s r) (who : ℕ → Bool) where
+  then-kept : endedIn r who .queue ≡ keep (outlives who) (s .queue)
+  then-kept = ends-keep who (r .queue) ∙ ap (keep (outlives who)) (e .queue)
+
+  -- everybody ends
+  pub over-seen : (code : ℕ) → ((n : ℕ) → live (s .tasks) n ≡ true → who n ≡ true) → Seen (overStep code) (endedIn r who)
+  unfolding overStep entriesLive
+  over-seen code all =
+      heirs-seen s (overStep code) r (endedIn r who .queue) e (over-heirs (s .tasks) code)
+      (then-kept
+      ∙ keep-among (λ (x : Entry). live (s .tasks) (x .task)) (outlives who) (λ (x : Entry). false) (λ x l. ap not (all (x .task) l)) (s .queue) (h .entries)
+      ∙ keep-none (s .queue))
+
+  -- task c ends, with all below it
+  module _ (c : ℕ) (u : used (s .tasks) c ≡ true) (exact : (n : ℕ) → live (s .tasks) n ≡ true → who n ≡ endsWith (motherIn (r .links)) c n) where
+    module _ (other : c ≡ jobStepTask → ⊥) where
+      left-seen : (last : Task) → isLive (last .condition) ≡ false → (isFree (last .condition) ≡ false → last .mother ≡ place (s .tasks) c .mother)
+          → Seen (leftBy s (endTasks (s .tasks) c last)) (endedIn r who)
+      unfolding leftBy entriesLive
+      left-seen last dead kin =
+          heirs-seen s (leftBy s us) r (endedIn r who .queue) e
+          (later-heirs ts us (waitsBy (keep (entryStays us) (s .queue)) us) (ended-heirs ts c last kin)
+          (kindred-heirs us (waitsBy (keep (entryStays us) (s .queue)) us) (kindred (keep (entryStays us) (s .queue)) us)))
+          (then-kept ∙ keep-among (λ (x : Entry). live ts (x .task)) (outlives who) (entryStays us) (λ x l. stay (x .task) l) (s .queue) (h .entries))
+        where
+          ts : List Task
+          ts = s .tasks
+
+          us : List Task
+          us = endTasks ts c last
+
+          goes : (n : ℕ) → live ts n ≡ true → who n ≡ below ts c n
+          goes n l =
+              exact n l
+              ∙ ends-below ts (h .jobStep) (h .mothers) (motherIn (r .links)) (e .root) (e .mothers) c (λ z. let p = used-pos ts c u in omega arith) other n (live-used ts n l)
+
+          stay : (n : ℕ) → live ts n ≡ true → not (who n) ≡ live us n
+          stay n l =
+              ap not (goes n l)
+              ∙ sym (live-exactly ts (h .places) (h .jobStep) (h .mothers) c u other last dead kin n ∙ ap (λ (b : Bool). b && not (below ts c n)) l)
+
+      pub detached-seen : Seen (detached s c) (endedIn r who)
+      unfolding detached
+      detached-seen = left-seen noTask refl (λ f. absurd (true≢false f))
+
+      posted-seen : (code : ℕ) (m : MaybeEcb) → Seen (endPosted (leftBy s (endTasks (s .tasks) c (endedPlace (place (s .tasks) c) m))) m code) (endedIn r who)
+      unfolding detached
+      posted-seen code NoEcb = detached-seen
+      posted-seen code (Named n) =
+          let t = leftBy s (endTasks (s .tasks) c (withCondition (place (s .tasks) c) Ended)) in
+          let v = left-seen (withCondition (place (s .tasks) c) Ended) refl (λ f. refl) in
+          heirs-seen t (posted t (n .0) code) (endedIn r who) (endedIn r who .queue) v (posted-heirs (t .tasks) (t .ecbs) (n .0) code) (v .queue)
+
+    pub ended-seen : (code : ℕ) → Seen (ended s c code) (endedIn r who)
+    unfolding ended endsWith pick
+    ended-seen code = one (eqb c jobStepTask) refl
+      where
+        one : (b : Bool) → eqb c jobStepTask ≡ b
+            → Seen (pick b (overStep code) (endPosted (leftBy s (endTasks (s .tasks) c (endedPlace (place (s .tasks) c) (place (s .tasks) c .ecb)))) (place (s .tasks) c .ecb) code)) (endedIn r who)
+        one true q = over-seen code (λ n l. exact n l ∙ rw q)
+        one false q = posted-seen (eqb-false c jobStepTask q) code (place (s .tasks) c .ecb)

@@ -1,0 +1,4 @@
+pub mod Climbing
+pub mod Heirs
+pub mod Seen
+pub mod Departing

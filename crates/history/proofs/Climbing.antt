@@ -7,9 +7,9 @@ use lib.Dec.{eqb}
 use borrow.Author.Tests.{eqb-true, eqb-false, ne-eqb}
 use Rattle.kinds.specs.Limits.{jobStepTask, highestTask}
 use Rattle.kinds.specs.declared.tasks.Task.{Task}
-use Rattle.rules.specs.Family.{place, live, used, mother, chain, below}
+use Rattle.rules.specs.Family.{place, used, mother, chain, below}
 use Rattle.rules.specs.SoundTasks.{jobStepGood, mothersGood}
-use Rattle.rules.specs.Reading.{climbs, endsWith}
+use Rattle.rules.specs.Reading.{climbs}
 use Rattle.laws.specs.Chains.{only}
 use Rattle.laws.specs.Mothers.{no-mother, has-mother}
 use Rattle.laws.specs.Admitted.{live-used}
@@ -39,7 +39,6 @@ module _ (ts : List Task) (job : jobStepGood ts ≡ true) (mothers : mothersGood
       above true e ih = rw (eqb-true n jobStepTask e, no-mother ts job) (climbs-nobody f ∙ sym (chain-nobody f ts (only c)))
       above false e ih = ih (mother ts n) (live-used ts (mother ts n) (has-mother ts mothers n u (eqb-false n jobStepTask e) .0))
 
-  -- of a task other than task 1
-  pub ends-below : (c ≡ jobStepTask → ⊥) → (n : ℕ) → used ts n ≡ true → endsWith m c n ≡ below ts c n
-  unfolding endsWith below
-  ends-below d n u = rw (ne-eqb c jobStepTask d) (climbs-chain highestTask n u)
+  pub climbs-below : (n : ℕ) → used ts n ≡ true → climbs m highestTask c n ≡ below ts c n
+  unfolding below
+  climbs-below n u = climbs-chain highestTask n u

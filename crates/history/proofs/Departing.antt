@@ -2,13 +2,14 @@
 use mathlib.Core.Path.{_≡_, refl, sym, ap, _∙_}
 use mathlib.Core.Bool.{Bool, true, false, not, _&&_, _||_, true≢false}
 use mathlib.Core.List.{List, [], _∷_, map, map-id, append-nil}
-use Prim.Native.Nat.{ℕ, zero, suc}
+use Prim.Native.Nat.{ℕ}
 use native.Mathlib.Omega.{arith}
 use lib.Dec.{eqb}
-use lib.ListN.{getD, replicate}
-use borrow.Author.Tests.{eqb-false}
-use Rattle.lists.specs.Lists.{keep, every}
-use Rattle.lists.specs.Bools.{both, never}
+use lib.ListN.{replicate}
+use borrow.Author.Tests.{eqb-false, ne-eqb}
+use Rattle.lists.specs.Lists.{keep}
+use Rattle.lists.specs.Bools.{never}
+use Rattle.lists.specs.Keeping.{keep-among, keep-none}
 use Rattle.lists.specs.Pick.{pick}
 use Rattle.kinds.specs.Limits.{jobStepTask, highestTask}
 use Rattle.kinds.specs.Tasks.{noTask, isFree, isLive, withCondition}
@@ -23,25 +24,17 @@ use Rattle.rules.specs.Waits.{waitsBy}
 use Rattle.rules.specs.Events.{posted}
 use Rattle.rules.specs.Steps.{Step, overStep}
 use Rattle.rules.specs.Ending.{endTasks, entryStays, leftBy, detached, endedPlace, endPosted, ended}
-use Rattle.rules.specs.Reading.{Ends, Reading, replayed, makesOf, motherIn, endsWith}
+use Rattle.rules.specs.Reading.{Ends, Reading, replayed, makesOf, motherIn, climbs, endsWith}
+use Rattle.laws.specs.Places.{place-free}
 use Rattle.laws.specs.Wiping.{free-unused}
 use Rattle.laws.specs.Chains.{used-pos}
 use Rattle.laws.specs.Mothers.{live-exactly}
 use Rattle.laws.specs.Settling.{kindred}
 use Rattle.laws.specs.Running.{Running}
 use Rattle.laws.specs.Admitted.{live-used}
-use Rattle.history.proofs.Climbing.{ends-below}
+use Rattle.history.proofs.Climbing.{climbs-below}
 use Rattle.history.proofs.Heirs.{Heirs, later-heirs, kindred-heirs, posted-heirs, ended-heirs}
 use Rattle.history.proofs.Seen.{Seen, heirs-seen}
-
--- two tests that come out alike on all that is there keep the same
-keep-among : {A : Type 0} (p f g : A → Bool) → ((x : A) → p x ≡ true → f x ≡ g x) → (l : List A) → every p l ≡ true → keep f l ≡ keep g l
-keep-among p f g h [] e = refl
-keep-among p f g h (x ∷ l) e = let b = both (p x) (every p l) e in rw (h x (b .0), keep-among p f g h l (b .1))
-
-keep-none : {A : Type 0} (l : List A) → keep (λ (x : A). false) l ≡ []
-keep-none [] = refl
-keep-none (x ∷ l) = keep-none l
 
 -- the entry is not of one who ends
 abbrev outlives : (ℕ → Bool) → Entry → Bool
@@ -51,16 +44,15 @@ ends-keep : (who : ℕ → Bool) (q : List Entry) → replayed q (Ends who ∷ [
 ends-keep who q = append-nil (map (makesOf (Ends who)) (keep (outlives who) q)) ∙ map-id (keep (outlives who) q)
 
 -- in a step that is over nobody is left
-nobody : (k n : ℕ) → place (replicate k noTask) n ≡ noTask
-unfolding place
-nobody k zero = refl
-nobody zero (suc i) = refl
-nobody (suc k) (suc zero) = refl
-nobody (suc k) (suc (suc i)) = nobody k (suc i)
-
 over-heirs : (ts : List Task) (code : ℕ) → Heirs ts (overStep code .tasks)
 unfolding overStep
-over-heirs ts code n u = never (used (replicate highestTask noTask) n) u (free-unused (replicate highestTask noTask) n (nobody highestTask n))
+over-heirs ts code n u = never (used (replicate highestTask noTask) n) u (free-unused (replicate highestTask noTask) n (place-free highestTask n))
+
+-- the mothers that the run tells of lead to c from where the table's do
+pub told-below : (s : Step) → Running s → (r : Reading) → Seen s r → (c : ℕ) → used (s .tasks) c ≡ true → (n : ℕ) → used (s .tasks) n ≡ true
+    → climbs (motherIn (r .links)) highestTask c n ≡ below (s .tasks) c n
+told-below s h r e c u n v =
+    climbs-below (s .tasks) (h .jobStep) (h .mothers) (motherIn (r .links)) (e .root) (e .mothers) c (λ z. let p = used-pos (s .tasks) c u in omega arith) n v
 
 -- a reading when those have ended
 abbrev pub endedIn : Reading → (ℕ → Bool) → Reading
@@ -84,7 +76,7 @@ module _ (s : Step) (h : Running s) (r : Reading) (e : Seen s r) (who : ℕ → 
     module _ (other : c ≡ jobStepTask → ⊥) where
       left-seen : (last : Task) → isLive (last .condition) ≡ false → (isFree (last .condition) ≡ false → last .mother ≡ place (s .tasks) c .mother)
           → Seen (leftBy s (endTasks (s .tasks) c last)) (endedIn r who)
-      unfolding leftBy entriesLive
+      unfolding leftBy entriesLive endsWith
       left-seen last dead kin =
           heirs-seen s (leftBy s us) r (endedIn r who .queue) e
           (later-heirs ts us (waitsBy (keep (entryStays us) (s .queue)) us) (ended-heirs ts c last kin)
@@ -98,9 +90,7 @@ module _ (s : Step) (h : Running s) (r : Reading) (e : Seen s r) (who : ℕ → 
           us = endTasks ts c last
 
           goes : (n : ℕ) → live ts n ≡ true → who n ≡ below ts c n
-          goes n l =
-              exact n l
-              ∙ ends-below ts (h .jobStep) (h .mothers) (motherIn (r .links)) (e .root) (e .mothers) c (λ z. let p = used-pos ts c u in omega arith) other n (live-used ts n l)
+          goes n l = exact n l ∙ ap (λ (b : Bool). b || climbs (motherIn (r .links)) highestTask c n) (ne-eqb c jobStepTask other) ∙ told-below s h r e c u n (live-used ts n l)
 
           stay : (n : ℕ) → live ts n ≡ true → not (who n) ≡ live us n
           stay n l =

@@ -4,3 +4,4 @@ pub mod Seen
 pub mod Departing
 pub mod Turns
 pub mod Quiet
+pub mod Queued

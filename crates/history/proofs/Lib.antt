@@ -5,3 +5,5 @@ pub mod Departing
 pub mod Turns
 pub mod Quiet
 pub mod Queued
+pub mod Leavers
+pub mod Attached

@@ -7,3 +7,4 @@ pub mod Quiet
 pub mod Queued
 pub mod Leavers
 pub mod Attached
+pub mod Runs

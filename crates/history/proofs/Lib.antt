@@ -8,3 +8,9 @@ pub mod Queued
 pub mod Leavers
 pub mod Attached
 pub mod Runs
+pub mod Grouped
+pub mod KeptGroups
+pub mod Habit
+pub mod Leading
+pub mod Waits
+pub mod Conclude

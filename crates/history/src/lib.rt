@@ -1,1 +1,1 @@
-// Demand 3, about runs from a fresh step, is proved in proofs/. There is no code here.
+// Demand 3, what holds after any run, is proved in proofs/. There is no code here.

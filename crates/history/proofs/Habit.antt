@@ -14,7 +14,8 @@ use Rattle.kinds.specs.declared.requests.Ret.the-variants.{None, Test, Use, Hav
 use Rattle.rules.specs.Names.{Names, namesOf}
 use Rattle.rules.specs.Control.{Entry, ofTask}
 use Rattle.rules.specs.Enq.{queuesAll}
-use Rattle.rules.specs.Reading.{Turn, callerOf, Queues, Releases, Changes, Ends, endsWith, endsAlone, motherIn, enqEvents, doneEvents, fourEvents, isError, events, Reading, nothing, replayed, reads, reading, queueRead, isQueued, oneAtATime}
+use Rattle.rules.specs.Reading.{Turn, callerOf, Queues, Releases, Changes, Ends, endsWith, endsAlone, motherIn, enqEvents, doneEvents, fourEvents, isError, events, Reading, nothing, replayed, reads, reading, queueRead, isQueued}
+use Rattle.rules.specs.Reading.{oneAtATime}
 use Rattle.history.proofs.Grouped.{Grouped}
 use Rattle.history.proofs.KeptGroups.{after-grouped}
 

@@ -14,3 +14,6 @@ pub mod Habit
 pub mod Leading
 pub mod Waits
 pub mod Conclude
+pub mod Computed
+pub mod Examples
+pub mod Impostors

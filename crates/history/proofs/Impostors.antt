@@ -1,0 +1,43 @@
+-- NO IMPOSTOR MEETS DEMAND 3: a run of each, and what is false of it. Assumes nothing.
+use mathlib.Core.Path.{_≡_, sym, ap, _∙_}
+use mathlib.Core.Bool.{Bool, true, false}
+use mathlib.Core.List.{List, _++_}
+use Rattle.lists.specs.Lists.{some}
+use Rattle.lists.specs.Bools.{never}
+use Rattle.rules.specs.Control.{Entry, ofTask, queueOf}
+use Rattle.rules.specs.Demand.{standsIn, leadingRun}
+use Rattle.rules.specs.Reading.{queueRead}
+use Rattle.history.specs.Samples.{turnsBy, comesTo, start, x, crossed, behindOwners, ownerDetached, asksOnce, changes, twoAsk, second}
+use Rattle.history.specs.Impostors.{Ringless, weakHabit, Tells, deafRead, Meets, leavesAll, forgetsOne, grantsAll}
+use Rattle.history.proofs.Computed.{turns, left, shown}
+use Rattle.history.proofs.Examples.{run-of, starts, crossed-run}
+
+-- two queues that a test tells apart
+differ : (f : Entry → Bool) (p q : List Entry) → some f p ≡ true → some f q ≡ false → p ≡ q → ⊥
+differ f p q h k e = never (some f p) h (ap (some f) e ∙ k)
+
+-- to ask only while nothing is waited for leaves rings
+pub weak-habit-rings : Ringless weakHabit → ⊥
+weak-habit-rings h = h start (left crossed) (turns crossed) starts (run-of start crossed) (shown .weak-habit) (crossed-run .1)
+
+-- a reading that is deaf to CHNG does not tell the queue
+pub deaf-reading-fails : Tells deafRead → ⊥
+deaf-reading-fails h =
+    differ (λ (e : Entry). e .exclusive) (left changes .queue) (deafRead (turns changes)) (shown .changed) (shown .unchanged)
+    (h start (left changes) (turns changes) starts (run-of start changes))
+
+-- a service that copies the tables back loses the queue, although nobody then lacks control
+pub leaving-all-fails : Meets leavesAll → ⊥
+leaving-all-fails h =
+    differ (ofTask 1) (queueRead (turnsBy leavesAll start asksOnce)) (comesTo leavesAll start asksOnce .queue) (shown .asked) (shown .lost) (sym (h asksOnce .stored))
+
+-- a DETACH that forgets one entry keeps what nobody asks for any more
+pub forgetting-fails : Meets forgetsOne → ⊥
+forgetting-fails h =
+    differ (ofTask 2) (comesTo forgetsOne start (behindOwners ++ ownerDetached) .queue) (queueRead (turnsBy forgetsOne start (behindOwners ++ ownerDetached)))
+    (shown .forgotten) (shown .ended) (h (behindOwners ++ ownerDetached) .stored)
+
+-- a service that grants all queued names at the first call breaks the leading run
+pub granting-all-fails : Meets grantsAll → ⊥
+granting-all-fails h =
+    never (standsIn second (leadingRun (queueOf x (queueRead (turnsBy grantsAll start twoAsk))))) (h twoAsk .granted x second (shown .queued) (shown .goes-on)) (shown .not-leading)

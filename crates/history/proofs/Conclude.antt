@@ -12,7 +12,9 @@ use Rattle.rules.specs.Sound.{soundStep}
 use Rattle.rules.specs.Reading.{Turn, queueRead}
 use Rattle.rules.specs.Demand.{leadingRun, waitsIn, Demand3}
 use Rattle.laws.specs.Owners.{owners-leading}
-use Rattle.history.proofs.Grouped.{Grouped, no-ring, first-free}
+use Rattle.history.proofs.Grouped.{Grouped}
+use Rattle.history.proofs.Ringless.{no-ring}
+use Rattle.history.proofs.First.{first-free}
 use Rattle.history.proofs.Habit.{habit-grouped}
 use Rattle.history.proofs.Leading.{leads}
 use Rattle.history.proofs.Waits.{sound-waits, sound-once}

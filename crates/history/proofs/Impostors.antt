@@ -1,16 +1,29 @@
--- NO IMPOSTOR MEETS DEMAND 3: a run of each, and what is false of it. Assumes nothing.
+-- NO IMPOSTOR MEETS DEMAND 3: a run of each, and what is false of it. What each is tried by holds of the rules' own, where demand 3 does. Assumes nothing.
 use mathlib.Core.Path.{_≡_, sym, ap, _∙_}
 use mathlib.Core.Bool.{Bool, true, false}
 use mathlib.Core.List.{List, _++_}
 use Rattle.lists.specs.Lists.{some}
 use Rattle.lists.specs.Bools.{never}
 use Rattle.rules.specs.Control.{Entry, ofTask, queueOf}
-use Rattle.rules.specs.Demand.{standsIn, leadingRun}
-use Rattle.rules.specs.Reading.{queueRead}
-use Rattle.history.specs.Samples.{turnsBy, comesTo, start, x, crossed, behindOwners, ownerDetached, asksOnce, changes, twoAsk, second}
+use Rattle.rules.specs.Demand.{standsIn, leadingRun, DemandThree}
+use Rattle.rules.specs.Reading.{queueRead, oneAtATime}
+use Rattle.history.specs.Samples.{turnsBy, comesTo, start, x, served, crossed, behindOwners, ownerDetached, asksOnce, changes, twoAsk, second}
 use Rattle.history.specs.Impostors.{Ringless, weakHabit, Tells, deafRead, Meets, leavesAll, forgetsOne, grantsAll}
 use Rattle.history.proofs.Computed.{turns, left, shown}
 use Rattle.history.proofs.Examples.{run-of, starts, crossed-run}
+
+-- WHAT DEMAND 3 GIVES of the habit, the reading and the services
+
+pub habit-ringless : DemandThree → Ringless oneAtATime
+habit-ringless d s t us f r = d s t us f r .ringless
+
+pub reading-tells : DemandThree → Tells queueRead
+reading-tells d s t us f r = d s t us f r .stored
+
+pub services-meet : DemandThree → Meets served
+services-meet d l = d start (comesTo served start l) (turnsBy served start l) starts (run-of start l)
+
+-- THE IMPOSTORS
 
 -- two queues that a test tells apart
 differ : (f : Entry → Bool) (p q : List Entry) → some f p ≡ true → some f q ≡ false → p ≡ q → ⊥

@@ -9,6 +9,8 @@ pub mod Leavers
 pub mod Attached
 pub mod Runs
 pub mod Grouped
+pub mod Ringless
+pub mod First
 pub mod KeptGroups
 pub mod Habit
 pub mod Leading

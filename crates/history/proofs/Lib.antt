@@ -19,3 +19,4 @@ pub mod Conclude
 pub mod Computed
 pub mod Examples
 pub mod Impostors
+pub mod Demand

@@ -1,3 +1,4 @@
 pub mod Shown
 pub mod Cleaning
 pub mod Listed
+pub mod Promises

@@ -9,5 +9,5 @@ pub mod Coded
 pub mod Releasing
 pub mod Queuing
 pub mod Serving
-pub mod Promises
 pub mod Serves
+pub mod Promises

@@ -1,23 +1,65 @@
--- No second answer fits a promise: each is stated of the function's own contract, `Post`. Assumes nothing.
-use mathlib.Core.Path.{_≡_, sym, _∙_, ap}
+-- No second result fits the contract of a public function, whoever wrote it. Assumes nothing.
+use mathlib.Core.Path.{sym, _∙_}
+use denote.Ref.{now}
+use Rattle.lists.specs.Promise.{Once, OnceWith}
 use Rattle.services.proofs.Leaves.{answer-once, served-once}
-use Rattle.services.proofs.Tables.sound.Reads as sound
+use Rattle.services.proofs.Tables.abend.Reads as abend
+use Rattle.services.proofs.Tables.attach.Reads as attach
+use Rattle.services.proofs.Tables.clear.Reads as clear
+use Rattle.services.proofs.Tables.deq.Reads as deq
+use Rattle.services.proofs.Tables.detach.Reads as detach
 use Rattle.services.proofs.Tables.dispatch.Reads as dispatch
+use Rattle.services.proofs.Tables.end.Reads as end
+use Rattle.services.proofs.Tables.enq.Reads as enq
+use Rattle.services.proofs.Tables.freemain.Reads as freemain
 use Rattle.services.proofs.Tables.fresh.Reads as fresh
+use Rattle.services.proofs.Tables.getmain.Reads as getmain
+use Rattle.services.proofs.Tables.sound.Reads as sound
+use Rattle.services.proofs.Tables.post.Reads as post
 use Rattle.services.proofs.Tables.serve.Reads as serve
+use Rattle.services.proofs.Tables.wait.Reads as wait
 
--- two results that meet a promise are one
-abbrev pub Once : {K : Type 0} {A R E : K → Type 0} → ((k : K) → A k → R k → E k → Type 0) → Type 0
-Once {K} {A} {R} {E} P = (k : K) (a : A k) (x y : R k) (e d : E k) → P k a x e → P k a y d → x ≡ y
+pub abend-once : Once abend.Post
+abend-once k a x y e d p q = answer-once x y (p ∙ sym q)
 
-pub sound-once : Once sound.Post
-sound-once κs a x y e d p q = p ∙ sym q
+pub attach-once : Once attach.Post
+attach-once k a x y e d p q = answer-once x y (p ∙ sym q)
+
+pub clear-once : Once clear.Post
+clear-once k a x y e d p q = answer-once x y (p ∙ sym q)
+
+pub deq-once : OnceWith deq.Post (λ k e. now (e .1 .1 .1 .1 .0))
+deq-once k a x y e d p q = served-once x y _ _ (p ∙ sym q)
+
+pub detach-once : Once detach.Post
+detach-once k a x y e d p q = answer-once x y (p ∙ sym q)
 
 pub dispatch-once : Once dispatch.Post
-dispatch-once κs a x y e d p q = answer-once x y (p ∙ sym q)
+dispatch-once k a x y e d p q = answer-once x y (p ∙ sym q)
+
+pub end-once : Once end.Post
+end-once k a x y e d p q = answer-once x y (p ∙ sym q)
+
+pub enq-once : OnceWith enq.Post (λ k e. now (e .1 .1 .1 .1 .0))
+enq-once k a x y e d p q = served-once x y _ _ (p ∙ sym q)
+
+pub freemain-once : Once freemain.Post
+freemain-once k a x y e d p q = answer-once x y (p ∙ sym q)
 
 pub fresh-once : Once fresh.Post
-fresh-once κs a x y e d p q = answer-once x y (p ∙ sym q)
+fresh-once k a x y e d p q = answer-once x y (p ∙ sym q)
 
-pub serve-once : Once serve.Post
-serve-once κs a x y e d p q = served-once x y _ _ (p ∙ sym q) .0
+pub getmain-once : Once getmain.Post
+getmain-once k a x y e d p q = answer-once x y (p ∙ sym q)
+
+pub sound-once : Once sound.Post
+sound-once k a x y e d p q = p ∙ sym q
+
+pub post-once : Once post.Post
+post-once k a x y e d p q = answer-once x y (p ∙ sym q)
+
+pub serve-once : OnceWith serve.Post (λ k e. now (e .1 .1 .1 .1 .0))
+serve-once k a x y e d p q = served-once x y _ _ (p ∙ sym q)
+
+pub wait-once : Once wait.Post
+wait-once k a x y e d p q = answer-once x y (p ∙ sym q)

@@ -28,7 +28,7 @@ module _ (t : Tables) (a : Asked) where
   abbrev pub serviceAt : Served Step
   serviceAt = serviceOf (stepOf t) (a .request) (a .names) (a .ecbs) (a .area)
 
-  sound-serves : soundb t ≡ true → servedOf t a ≡ servedBy serviceAt
+  pub sound-serves : soundb t ≡ true → servedOf t a ≡ servedBy serviceAt
   unfolding servedOf answeredWith
   sound-serves h = pick-true (soundb t) _ _ h
 

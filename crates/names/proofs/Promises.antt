@@ -1,0 +1,23 @@
+-- No second result fits the contract of a public function, whoever wrote it. Assumes nothing.
+use mathlib.Core.Path.{sym, _∙_}
+use Rattle.lists.specs.Promise.{Once}
+use Rattle.names.proofs.same_name.Reads as same-name
+use Rattle.names.proofs.is_legal.Reads as is-legal
+use Rattle.names.proofs.clean.Reads as clean
+use Rattle.names.proofs.list.names_good.Reads as names-good
+use Rattle.names.proofs.list.asks_shared.Reads as asks-shared
+
+pub same-name-once : Once same-name.Post
+same-name-once k a x y e d p q = p ∙ sym q
+
+pub is-legal-once : Once is-legal.Post
+is-legal-once k a x y e d p q = p ∙ sym q
+
+pub clean-once : Once clean.Post
+clean-once k a x y e d p q = p ∙ sym q
+
+pub names-good-once : Once names-good.Post
+names-good-once k a x y e d p q = p ∙ sym q
+
+pub asks-shared-once : Once asks-shared.Post
+asks-shared-once k a x y e d p q = p ∙ sym q

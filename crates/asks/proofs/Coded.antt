@@ -25,12 +25,12 @@ use Rattle.rules.specs.Control.{Entry, hasEntry, available, soleOwner}
 use Rattle.rules.specs.Codes.{writtenOn}
 use Rattle.rules.specs.Enq.{enqCode}
 use Rattle.rules.specs.Deq.{deqCode, deqCodes}
-use Rattle.asks.specs.Flagging.{flagsOf}
+use Rattle.flags.specs.Flagging.{flagsOf}
 use Rattle.asks.specs.Coding.{codesOf, queuingCode, changeCode, releaseCode, enqCodeBy, deqCodeBy}
-use Rattle.asks.specs.declared.flags.Flags.{Flags}
+use Rattle.flags.specs.declared.Flags.{Flags}
 use Rattle.asks.specs.declared.codes.Codes.{Codes}
-use Rattle.asks.proofs.Filled.{Filled, none-filled, filled-next, filled-all}
-use Rattle.asks.proofs.Flagged.{flag-at}
+use Rattle.flags.proofs.Filled.{Filled, none-filled, filled-next, filled-all}
+use Rattle.flags.proofs.Flagged.{flag-at}
 
 -- a code for each place, the first i of them written
 abbrev pub CodedTo : (ℕ → ℕ) → ℕ → List ℕ → Type 0

@@ -18,7 +18,7 @@ use Rattle.queue.specs.Queues.{entryOf, live}
 use Rattle.asks.specs.Coding.{codesOf, codes-front}
 use Rattle.queue.specs.declared.Queue.{Queue}
 use Rattle.asks.specs.declared.codes.Codes.{Codes}
-use Rattle.asks.proofs.Flagged.{asks-length}
+use Rattle.flags.proofs.Flagged.{asks-length}
 
 -- the codes area against the count
 pub short-is : (area : List ℕ) (l : NameList) (room : ℕ) (d due v : Bool) → length area ≡ room → l .count ≤ length (l .names) → d ≡ due

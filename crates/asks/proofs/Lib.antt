@@ -1,5 +1,2 @@
-pub mod Filled
-pub mod Flagged
 pub mod Coded
-pub mod Soles
 pub mod Judged

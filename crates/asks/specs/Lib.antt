@@ -1,3 +1,1 @@
-pub mod Flagging
-pub mod Leading
 pub mod Coding

@@ -1,7 +1,7 @@
 // The codes of ENQ and DEQ: a byte for each name beside a request.
-use crate::flags::available;
-use crate::flags::entered;
-use crate::lead::sole;
+use flags::available;
+use flags::entered;
+use flags::lead::sole;
 use kinds::DeqRet;
 use kinds::NameList;
 use kinds::Ret;

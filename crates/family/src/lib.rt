@@ -1,6 +1,5 @@
 // The task table: task n stands at place n - 1.
 pub mod choice;
-pub mod sound;
 
 use kinds::Task;
 use kinds::TaskNumber;

@@ -1,6 +1,4 @@
 // The resource queue: entries in the order of request, packed.
-pub mod deq;
-pub mod enq;
 pub mod marks;
 
 use kinds::Name;

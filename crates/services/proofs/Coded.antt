@@ -23,7 +23,7 @@ use Rattle.rules.specs.Ending.{failing}
 use Rattle.rules.specs.Admission.{gateOf, through, settled, codesThrough}
 use Rattle.asks.specs.Coding.{codesOf, codes-front}
 use Rattle.asks.specs.declared.codes.Codes.{Codes}
-use Rattle.asks.proofs.Flagged.{asks-length}
+use Rattle.flags.proofs.Flagged.{asks-length}
 use Rattle.services.specs.Kept.{Packed, Admitted, stepOf, tablesOf, soundb, gateAt, servedBy, answeredWith, settledWith}
 use Rattle.services.specs.declared.Tables.{Tables}
 use Rattle.services.proofs.Glue.{sound-packed, refused-kept, gate-cases}

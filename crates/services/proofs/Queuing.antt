@@ -38,7 +38,7 @@ use Rattle.queue.specs.Queues.{slotOf, live, stored}
 use Rattle.queue.specs.declared.Queue.{Queue}
 use Rattle.asks.specs.Coding.{codesOf}
 use Rattle.asks.specs.declared.codes.Codes.{Codes}
-use Rattle.asks.proofs.Flagged.{asks-length}
+use Rattle.flags.proofs.Flagged.{asks-length}
 use Rattle.services.specs.Kept.{Packed, Admitted, stepOf, tablesOf, withQueue}
 use Rattle.services.specs.Coded.{Unhindered}
 use Rattle.services.specs.declared.Tables.{Tables}

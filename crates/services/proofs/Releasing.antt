@@ -24,7 +24,7 @@ use Rattle.queue.specs.declared.Queue.{Queue}
 use Rattle.queue.proofs.Views.{live-stored}
 use Rattle.asks.specs.Coding.{codesOf}
 use Rattle.asks.specs.declared.codes.Codes.{Codes}
-use Rattle.asks.proofs.Flagged.{asks-length}
+use Rattle.flags.proofs.Flagged.{asks-length}
 use Rattle.services.specs.Kept.{Packed, Admitted, stepOf, tablesOf, withQueue}
 use Rattle.services.specs.declared.Tables.{Tables}
 use Rattle.services.proofs.Glue.{admitted-packed, admitted-running}

@@ -40,7 +40,7 @@ impl Tables {
     {
         let q = self.queue;
         let f = self.family;
-        let entries = queue::deq::release(q, caller, names);
+        let entries = entries::deq::release(q, caller, names);
         let tasks = locks::waking::wake(entries, f);
         let mut next = self;
         next.queue = entries;

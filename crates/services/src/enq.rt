@@ -43,8 +43,8 @@ fn all_available(q: Queue, names: NameList) -> bool
     requires { ⌜ (q .count ≤ mostEntries) × (names .count ≤ longestList) ⌝ }
     ensures { λ r. ⌜ r ≡ every (available (live q)) (namesIn names .asks) ⌝ }
 {
-    let free = asks::flags::available(q, names);
-    asks::flags::all_set(free, names.count)
+    let free = flags::available(q, names);
+    flags::all_set(free, names.count)
 }
 
 impl Tables {
@@ -55,7 +55,7 @@ impl Tables {
     {
         let q = self.queue;
         let f = self.family;
-        let entries = queue::enq::with_tail(q, caller, names);
+        let entries = entries::enq::with_tail(q, caller, names);
         let mut next = self;
         next.queue = entries;
         if all_available(q, names) {
@@ -74,7 +74,7 @@ impl Tables {
         ensures { λ r. ⌜ r ≡ tablesOf (requeued (stepOf self) (map (madeExclusive (caller .0) (namesOf (namesIn names))) (live (self .queue)))) ⌝ }
     {
         let q = self.queue;
-        let changed = queue::enq::made_exclusive(q, caller, names);
+        let changed = entries::enq::made_exclusive(q, caller, names);
         let mut next = self;
         next.queue = changed;
         next

@@ -16,12 +16,12 @@ ghost use Rattle.soundness.specs.Rules.{tasksGood, queueGood, eventsGood
 pub fn tasks_good(f: Family) -> bool
     ensures { λ r. ⌜ r ≡ tasksGood (f .places) ⌝ }
 {
-    let a = family::sound::job_step_good(f);
-    let b = family::sound::mothers_good(f);
-    let d = family::sound::priorities_good(f);
-    let e = family::sound::task_ecbs_good(f);
-    let g = family::sound::ended_tasks_good(f);
-    let h = family::sound::free_places_good(f);
+    let a = places::job_step_good(f);
+    let b = places::mothers_good(f);
+    let d = places::priorities_good(f);
+    let e = places::task_ecbs_good(f);
+    let g = places::ended_tasks_good(f);
+    let h = places::free_places_good(f);
     a & (b & (d & (e & (g & h))))
 }
 
@@ -65,7 +65,7 @@ pub fn areas_good(s: Storage, f: Family) -> bool
 fn sizes_good(f: Family, e: Events) -> bool
     ensures { λ r. ⌜ r ≡ sizesGood (f .places) (e .ecbs) ⌝ }
 {
-    let a = family::sound::tasks_fit(f);
+    let a = places::tasks_fit(f);
     let b = events::ecbs_fit(e);
     a & b
 }
@@ -104,7 +104,7 @@ pub fn over_good(code: u16, f: Family, q: Queue, e: Events, s: Storage) -> bool
 {
     let a = sizes_good(f, e);
     let b = Task::code_good(code);
-    let d = family::sound::all_zero(f);
+    let d = places::all_zero(f);
     let g = no_entry(q);
     let h = events::all_zero(e);
     let i = no_area(s);

@@ -59,7 +59,7 @@ pub fn attach_verdict(f: Family, lpmod: u16, dpmod: i16, ecb: MaybeEcb) -> Verdi
     if !Task::dpmod_good(dpmod) {
         return Verdict::Refuse(Refusal::OutOfRange);
     }
-    if !family::sound::ecb_good(ecb) {
+    if !places::ecb_good(ecb) {
         return Verdict::Refuse(Refusal::OutOfRange);
     }
     let n = family::choice::lowest_free(f);

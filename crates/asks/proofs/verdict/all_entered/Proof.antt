@@ -7,7 +7,7 @@ use Rattle.names.specs.Named.{namesIn}
 use Rattle.rules.specs.Names.{nameOf}
 use Rattle.rules.specs.Control.{hasEntry}
 use Rattle.queue.specs.Queues.{live}
-use Rattle.asks.proofs.Flagged.{every-flag}
+use Rattle.flags.proofs.Flagged.{every-flag}
 use native.Mathlib.Omega.{arith}
 use borrow.Author.Needs.{needs}
 use Rattle.asks.proofs.verdict.all_entered.Statement.{statement}

@@ -2,7 +2,7 @@ use mathlib.Core.Path.{_≡_, _∙_}
 use lib.ListN.{length}
 use Rattle.lists.specs.Arrays.{mapped-length}
 use Rattle.kinds.specs.Limits.{longestList}
-use Rattle.asks.proofs.Flagged.{some-flag}
+use Rattle.flags.proofs.Flagged.{some-flag}
 use native.Mathlib.Omega.{arith}
 use borrow.Author.Needs.{needs}
 use Rattle.asks.proofs.verdict.some_entered.Statement.{statement}

@@ -3,7 +3,7 @@ use lib.ListN.{length}
 use native.Mathlib.Omega.{arith}
 use Rattle.lists.specs.Arrays.{mapped-length}
 use Rattle.kinds.specs.Limits.{longestList}
-use Rattle.asks.proofs.Flagged.{every-flag}
+use Rattle.flags.proofs.Flagged.{every-flag}
 use borrow.Author.Needs.{needs}
 use Rattle.services.proofs.enq.all_available.Statement.{statement}
 use Rattle.services.proofs.enq.all_available.Tie as tie

@@ -1,0 +1,86 @@
+-- The flags of the names beside a request, and the searches that find them. Assumes nothing.
+use mathlib.Core.Path.{_≡_, refl, sym, ap, _∙_}
+use mathlib.Core.Bool.{Bool, true, false, not, _&&_, _||_, and-true, false≢true}
+use mathlib.Core.List.{List, map}
+use Prim.Native.Nat.{ℕ, _+_, _≤_, _<_}
+use native.Mathlib.Omega.{arith}
+use lib.Dec.{ltb}
+use lib.ListN.{length, getD, take, length-map, List·getD-map}
+use lib.Seq.{slice, slice-empty, length-take-le}
+use borrow.Author.Tests.{ltb-false}
+use Rattle.lists.specs.Lists.{every, some}
+use Rattle.lists.specs.Tables.{padded, padded-take}
+use Rattle.lists.specs.Every.{slice-view, every-of, some-of}
+use Rattle.lists.specs.Filling.{filled-at}
+use Rattle.kinds.specs.Limits.{longestList}
+use Rattle.kinds.specs.declared.names.Slot.{Slot}
+use Rattle.kinds.specs.declared.names.Wanted.{Wanted}
+use Rattle.kinds.specs.declared.names.NameList.{NameList}
+use Rattle.names.specs.Named.{askOf, namesIn}
+use Rattle.rules.specs.Names.{Ask}
+use Rattle.rules.specs.Control.{Entry, control, available}
+use Rattle.queue.specs.Queues.{entryOf}
+use Rattle.flags.specs.Flagging.{flagsOf, someSet, allSet}
+use Rattle.flags.proofs.Filled.{Filled, filled-all}
+use Rattle.flags.specs.declared.Flags.{Flags}
+
+-- the names within the count are as many as it says
+pub asks-length : (l : NameList) → l .count ≤ length (l .names) → length (namesIn l .asks) ≡ l .count
+asks-length l h = length-take-le (l .count) (map askOf (l .names)) (rw (length-map (l .names) askOf) h)
+
+pub flags-are : (f : Ask → Bool) (l : NameList) (i : ℕ) (r : Flags) → i ≡ l .count → Filled false f (map askOf (l .names)) i (r .of) → r ≡ flagsOf f (namesIn l)
+unfolding flagsOf
+flags-are f l i r e v = let s = filled-all false f (map askOf (l .names)) i (l .count) (r .of) e v in λ j. record { of = s j }
+
+-- the flag of one name
+pub flag-at : (f : Ask → Bool) (l : NameList) (r : Flags) (i : ℕ) (d : Wanted) (e : Bool) → r ≡ flagsOf f (namesIn l) → i < l .count → l .count ≤ length (l .names)
+    → getD (r .of) i e ≡ f (askOf (getD (l .names) i d))
+unfolding flagsOf
+flag-at f l r i d e v h k =
+    ap (λ (x : Flags). getD (x .of) i e) v
+    ∙ filled-at f longestList false (map askOf (l .names)) (l .count) i (askOf d) e h (omega (arith, length-map (l .names) askOf))
+    ∙ ap f (List·getD-map askOf (l .names) i d)
+
+-- a request is tested as an entry at the tail would be
+pub tail-available : (q : List Entry) (t : ℕ) (a : Ask) → available q a ≡ control q (record { task = t; exclusive = a .exclusive; name = a .name })
+unfolding available control
+tail-available q t a = refl
+
+-- the search, among the first n slots, for one that passes a test: from place j on, while none was found
+unfoldable pub Sought : (Entry → Bool) → List Slot → ℕ → ℕ → Bool → Type 0
+Sought f es n j found = some f (take n (map entryOf es)) ≡ (found || some f (slice j n (map entryOf es)))
+
+module _ (f : Entry → Bool) (es : List Slot) (n : ℕ) where
+  pub sought-start : Sought f es n 0 false
+  unfolding Sought
+  sought-start = refl
+
+  pub sought-next : (j : ℕ) (d : Slot) (found b : Bool) → j < n → n ≤ length es → not found ≡ true → b ≡ f (entryOf (getD es j d))
+      → Sought f es n j found → Sought f es n (j + 1) b
+  unfolding Sought
+  sought-next j d true b h k s t v = absurd (false≢true s)
+  sought-next j d false b h k s t v = v ∙ ap (some f) (slice-view entryOf es j n d h k) ∙ ap (λ (a : Bool). a || some f (slice (j + 1) n (map entryOf es))) (sym t)
+
+  pub sought-end : (j : ℕ) (found : Bool) → j ≤ n → (ltb j n && not found) ≡ false → Sought f es n j found → some f (take n (map entryOf es)) ≡ found
+  unfolding Sought
+  sought-end j true h k v = v
+  sought-end j false h k v =
+      let m : n ≤ j = ltb-false j n (sym (and-true (ltb j n)) ∙ k) in
+      let i : j ≡ n = omega arith in
+      v ∙ rw i (ap (some f) (slice-empty n (map entryOf es)))
+
+-- the flags of all names
+flags-taken : (f : Ask → Bool) (l : NameList) (r : Flags) → r ≡ flagsOf f (namesIn l) → l .count ≤ length (l .names) → take (l .count) (r .of) ≡ map f (namesIn l .asks)
+unfolding flagsOf
+flags-taken f l r e h =
+    ap (λ (x : Flags). take (l .count) (x .of)) e
+    ∙ ap (λ (k : ℕ). take k (padded longestList false (map f (namesIn l .asks)))) (sym (length-map (namesIn l .asks) f ∙ asks-length l h))
+    ∙ padded-take longestList false (map f (namesIn l .asks))
+
+pub some-flag : (f : Ask → Bool) (l : NameList) (r : Flags) → r ≡ flagsOf f (namesIn l) → l .count ≤ length (l .names) → someSet r (l .count) ≡ some f (namesIn l .asks)
+unfolding someSet
+some-flag f l r e h = ap (some (λ (b : Bool). b)) (flags-taken f l r e h) ∙ some-of f (λ (b : Bool). b) (namesIn l .asks)
+
+pub every-flag : (f : Ask → Bool) (l : NameList) (r : Flags) → r ≡ flagsOf f (namesIn l) → l .count ≤ length (l .names) → allSet r (l .count) ≡ every f (namesIn l .asks)
+unfolding allSet
+every-flag f l r e h = ap (every (λ (b : Bool). b)) (flags-taken f l r e h) ∙ every-of f (λ (b : Bool). b) (namesIn l .asks)

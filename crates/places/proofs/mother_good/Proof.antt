@@ -1,0 +1,44 @@
+use mathlib.Core.Path.{sym, ap, _∙_}
+use borrow.Author.Needs.{needs}
+use borrow.Author.Tests.{eq-eqb, ne-eqb}
+use Rattle.kinds.specs.Tasks.{isLive}
+use Rattle.kinds.specs.declared.tasks.Task.{Task}
+use Rattle.places.proofs.Mothers.{not-used, job-step, other-task}
+use Rattle.places.proofs.mother_good.Statement.{statement}
+use Rattle.places.proofs.mother_good.Tie as tie
+
+is-free-requires : tie.Need-is-free-requires
+is-free-requires c κs = search needs
+
+returns : tie.Need-returns
+returns c = let a = (c .before .before .args) in not-used (a .f .places) (a .n .0) (a .x) (sym ((c .before .is-free) .ensures) ∙ (c .if1) .taken)
+
+returns-2 : tie.Need-returns-2
+returns-2 c = let a = (c .before .before .before .before .args) in job-step (a .f .places) (a .n .0) (a .x) (sym ((c .before .before .before .is-free) .ensures) ∙ (c .before .before .if1) .left) (eq-eqb _ _ ((c .if2) .taken))
+
+at-requires : tie.Need-at-requires
+at-requires c κs = search needs
+
+is-live-requires : tie.Need-is-live-requires
+is-live-requires c κs = search needs
+
+is-below-requires : tie.Need-is-below-requires
+is-below-requires c κs = search needs
+
+returns-3 : tie.Need-returns-3
+returns-3 c =
+    let a = (c .before .before .before .before .before .before .before .before .args) in
+    other-task (a .f .places) (a .n .0) (a .x) ((c .before .is-live) .result) ((c .is-below) .result) (sym ((c .before .before .before .before .before .before .before .is-free) .ensures) ∙ (c .before .before .before .before .before .before .if1) .left) (ne-eqb _ _ ((c .before .before .before .before .if2) .left))
+    ((c .before .is-live) .ensures ∙ ap (λ (y : Task). isLive (y .condition)) ((c .before .before .at) .ensures)) ((c .is-below) .ensures)
+
+pub mother-good-spec : {M : Type 1} → statement M
+mother-good-spec =
+    tie.close
+    (tie.spec
+    is-free-requires
+    returns
+    returns-2
+    at-requires
+    is-live-requires
+    is-below-requires
+    returns-3)

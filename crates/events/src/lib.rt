@@ -77,10 +77,10 @@ pub fn word(x: Ecb) -> u64
 pub fn ecbs_fit(e: Events) -> bool
     ensures { λ r. ⌜ r ≡ ecbsFit (e .ecbs) ⌝ }
 {
-    true
+    true // by the array's type
 }
 
-pub fn word_good(x: Ecb) -> bool
+fn word_good(x: Ecb) -> bool
     ensures { λ r. ⌜ r ≡ ecbWordGood x ⌝ }
 {
     if x.complete {
@@ -106,7 +106,7 @@ pub fn words_good(e: Events) -> bool
     true
 }
 
-pub fn is_zero(x: Ecb) -> bool
+fn is_zero(x: Ecb) -> bool
     ensures { λ r. ⌜ r ≡ zeroEcb x ⌝ }
 {
     if x.complete {
@@ -154,7 +154,7 @@ pub fn completed(code: u32) -> Ecb
 }
 
 // The wait bit is off if task w set it.
-pub fn unwaited(x: Ecb, w: TaskNumber) -> Ecb
+fn unwaited(x: Ecb, w: TaskNumber) -> Ecb
     ensures { λ r. ⌜ r ≡ unwaitedOf (w .0) x ⌝ }
 {
     if x.waiter.0 == w.0 {

@@ -78,7 +78,7 @@ fn all_distinct(l: EcbList) -> bool
 }
 
 // 101: the count, then every number, then a number that stands twice.
-pub fn list_good(l: EcbList) -> bool
+fn list_good(l: EcbList) -> bool
     ensures { λ r. ⌜ r ≡ ecbsGood (ecbsIn l) ⌝ }
 {
     if !NameList::count_good(l.count) {
@@ -91,7 +91,7 @@ pub fn list_good(l: EcbList) -> bool
 }
 
 // A listed ECB has its wait bit on.
-pub fn any_waited(e: Events, l: EcbList) -> bool
+fn any_waited(e: Events, l: EcbList) -> bool
     ensures { λ r. ⌜ r ≡ some (λ (n : ℕ). waitBit (ecbAt (e .ecbs) n)) (ecbsIn l .ecbs) ⌝ }
 {
     let n = listed(l) as usize;

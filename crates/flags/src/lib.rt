@@ -55,7 +55,7 @@ pub fn all_set(f: Flags, n: u32) -> bool
 }
 
 // The entry is the task's, for that name.
-pub fn is_for(x: Slot, t: TaskNumber, n: Name) -> bool
+fn is_for(x: Slot, t: TaskNumber, n: Name) -> bool
     ensures { λ r. ⌜ r ≡ isFor (t .0) (resourceOf n) (entryOf x) ⌝ }
 {
     if x.task.0 != t.0 {

@@ -87,7 +87,7 @@ fn mother_good(f: Family, n: TaskNumber, x: Task) -> bool
 pub fn tasks_fit(f: Family) -> bool
     ensures { λ r. ⌜ r ≡ tasksFit (f .places) ⌝ }
 {
-    true
+    true // by the array's type
 }
 
 // Task 1 is live, with no mother and no ECB.

@@ -131,7 +131,7 @@ pub fn packed(q: Queue) -> bool
 pub fn queue_fits(q: Queue) -> bool
     ensures { λ r. ⌜ r ≡ queueFits (live q) ⌝ }
 {
-    true
+    true // by the array's length
 }
 
 // An earlier entry keeps a later one waiting: they are for one name, and not both shared.

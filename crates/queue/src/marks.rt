@@ -12,7 +12,7 @@ impl Marks {
     pub const PLACES: usize = TaskNumber::PLACES + 1;
 
     // A number that no task has is not marked.
-    pub fn has(self, t: TaskNumber) -> bool
+    pub(crate) fn has(self, t: TaskNumber) -> bool
         ensures { λ r. ⌜ r ≡ markAt self (t .0) ⌝ }
     {
         let k = t.0 as usize;
@@ -40,7 +40,7 @@ pub fn no_marks() -> Marks
 }
 
 // The marks, after an entry of the task that has control or lacks it. A mark stays.
-pub fn marked(m: Marks, t: TaskNumber, granted: bool) -> Marks
+pub(crate) fn marked(m: Marks, t: TaskNumber, granted: bool) -> Marks
     ensures { λ r. ⌜ r ≡ withMark m (t .0) granted ⌝ }
 {
     let k = t.0 as usize;

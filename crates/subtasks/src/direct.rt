@@ -6,14 +6,14 @@ ghost use mathlib.Core.Path.{_≡_};
 ghost use Rattle.rules.specs.Family.{isSubtaskOf, directSubtask, hasSubtasks};
 
 // x is the place of a direct subtask of task n.
-pub fn is_subtask_of(x: Task, n: TaskNumber) -> bool
+pub(crate) fn is_subtask_of(x: Task, n: TaskNumber) -> bool
     ensures { λ r. ⌜ r ≡ isSubtaskOf (n .0) x ⌝ }
 {
     family::in_use(x) & (x.mother.0 == n.0)
 }
 
 // Task n is a direct subtask of c.
-pub fn is_subtask(f: Family, c: TaskNumber, n: TaskNumber) -> bool
+pub(crate) fn is_subtask(f: Family, c: TaskNumber, n: TaskNumber) -> bool
     ensures { λ r. ⌜ r ≡ directSubtask (f .places) (c .0) (n .0) ⌝ }
 {
     let x = family::at(f, n);
@@ -21,7 +21,7 @@ pub fn is_subtask(f: Family, c: TaskNumber, n: TaskNumber) -> bool
 }
 
 // Task c still has subtasks.
-pub fn has_subtasks(f: Family, c: TaskNumber) -> bool
+pub(crate) fn has_subtasks(f: Family, c: TaskNumber) -> bool
     ensures { λ r. ⌜ r ≡ hasSubtasks (f .places) (c .0) ⌝ }
 {
     let mut i: usize = 0;

@@ -11,7 +11,7 @@ ghost use Rattle.family.specs.Families.{familyOf};
 ghost use Rattle.subtasks.specs.Under.{under};
 
 // Frees task n and all below it. A number that no task in use has changes nothing.
-pub fn end_task(f: Family, n: TaskNumber) -> Family
+fn end_task(f: Family, n: TaskNumber) -> Family
     ensures { λ r. ⌜ r ≡ familyOf (wiped (below (f .places) (n .0)) (f .places)) ⌝ }
 {
     let x = family::at(f, n);
@@ -24,7 +24,7 @@ pub fn end_task(f: Family, n: TaskNumber) -> Family
 }
 
 // Frees each direct subtask of n and all below it.
-pub fn end_subtasks(f: Family, n: TaskNumber) -> Family
+fn end_subtasks(f: Family, n: TaskNumber) -> Family
     ensures { λ r. ⌜ r ≡ familyOf (wiped (under (f .places) (n .0)) (f .places)) ⌝ }
 {
     let mut g = f;

@@ -3,31 +3,28 @@ use mathlib.Core.Path.{_≡_, refl, sym, ap, subst, _∙_}
 use mathlib.Core.Bool.{Bool, true, false}
 use mathlib.Core.List.{List}
 use Prim.Native.Nat.{ℕ, _≤_}
-use lib.Dec.{eqb, leb}
+use lib.Dec.{leb}
 use native.Mathlib.Omega.{arith}
 use Rattle.lists.specs.Pick.{pick, chain-and}
 use Rattle.kinds.specs.Limits.{lowestTask, highestTask}
-use Rattle.kinds.specs.Ranges.{ecbGood, postCodeGood, priorityGood}
+use Rattle.kinds.specs.Ranges.{priorityGood}
 use Rattle.kinds.specs.Tasks.{isLive, waits}
 use Rattle.kinds.specs.declared.tasks.Task.{Task}
 use Rattle.kinds.specs.declared.ecbs.Ecb.{Ecb}
 use Rattle.kinds.specs.declared.areas.Area.{Area}
-use Rattle.kinds.specs.declared.numbers.EcbNumber.{EcbNumber}
 use Rattle.kinds.specs.declared.numbers.TaskNumber.{TaskNumber}
 use Rattle.kinds.specs.declared.replies.Refusal.{Refusal}
-use Rattle.kinds.specs.declared.replies.Refusal.the-variants.{Unsound, OutOfRange, WaitBitOn}
+use Rattle.kinds.specs.declared.replies.Refusal.the-variants.{Unsound, OutOfRange}
 use Rattle.kinds.specs.declared.replies.Fault.{Fault}
 use Rattle.kinds.specs.declared.replies.Gate.{Gate}
 use Rattle.kinds.specs.declared.replies.Gate.the-variants.{Open, Shut}
 use Rattle.kinds.specs.declared.replies.Verdict.{Verdict}
 use Rattle.kinds.specs.declared.replies.Verdict.the-variants.{Go, Refuse, Fail}
-use Rattle.rules.specs.Steps.{Step, Outcome, refused, done, keptBy, withEcbs, withAreas, overStep}
+use Rattle.rules.specs.Steps.{Step, Outcome, refused, done, keptBy, withTasks, withEcbs, withAreas, overStep}
+use Rattle.rules.specs.Dispatch.{dispatched, dispatchBody}
 use Rattle.rules.specs.Fresh.{freshStep, freshOf}
 use Rattle.rules.specs.Ending.{failing}
 use Rattle.rules.specs.Family.{place}
-use Rattle.rules.specs.Events.{ecbAt}
-use Rattle.rules.specs.Clear.{clearVerdict}
-use Rattle.rules.specs.Post.{postVerdict}
 use Rattle.rules.specs.Sound.{soundTasks, soundQueue, soundEcbs, soundAreas, overGood, runningGood, soundStep}
 use Rattle.rules.specs.Admission.{admitted, gateOf, through, settled}
 use Rattle.family.specs.Families.{familyOf}
@@ -37,11 +34,12 @@ use Rattle.queue.specs.Queues.{live, packedb}
 use Rattle.queue.proofs.Views.{packed-kept as queue-kept}
 use Rattle.storage.specs.Stored.{live as liveAreas, stored as storedAreas, packedb as packedAreas}
 use Rattle.storage.specs.Kept.{packed-kept as areas-kept}
+use Rattle.claims.specs.Claiming.{Admits}
 use Rattle.laws.specs.Running.{Running, running-parts}
 use Rattle.laws.specs.Chains.{used-pos, used-within}
 use Rattle.laws.specs.Mothers.{fits-length}
 use Rattle.laws.specs.Admitted.{open-running, open-used}
-use Rattle.services.specs.Kept.{Packed, Admitted, stepOf, tablesOf, withSignals, withStorage, soundb, answered, gated, gateAt}
+use Rattle.services.specs.Kept.{Packed, Admitted, stepOf, tablesOf, withFamily, withSignals, withStorage, settledIn, soundb, answered, gated, gateAt}
 use Rattle.services.specs.declared.Tables.{Tables}
 
 -- SOUND TABLES KEEP THEIR STEP
@@ -141,7 +139,26 @@ module _ (t : Tables) (c : TaskNumber) (a : Admitted t c) where
         omega (arith, used-within (t .family .places) (c .0) u, fits-length (t .family .places) (admitted-running .places)),
       )
 
+  -- as ENQ and DEQ ask it
+  pub caller-claims : Admits (live (t .queue)) (t .family .places) c
+  caller-claims = record {
+    rest = record { over = t .over; code = t .code; ecbs = t .events .ecbs; areas = liveAreas (t .storage) };
+    running = admitted-running;
+    gate = a .gate;
+  }
+
 -- THE VERDICT v
+
+-- a service that says what becomes of the tables where its verdict v is to go on, here w
+pub settles : (t : Tables) (c : TaskNumber) (o : Outcome Step) (n s : Outcome Tables) (v w : Verdict) → Packed t → w ≡ v → (v ≡ Go → n ≡ keptBy tablesOf o) → s ≡ settledIn w t c n
+    → s ≡ keptBy tablesOf (settled v (stepOf t) c o)
+unfolding settled settledIn
+settles t c o n s v w p e g a = a ∙ ap (λ (z : Verdict). settledIn z t c n) e ∙ one v g
+  where
+    one : (u : Verdict) → (u ≡ Go → n ≡ keptBy tablesOf o) → settledIn u t c n ≡ keptBy tablesOf (settled u (stepOf t) c o)
+    one Go k = k refl
+    one (Refuse why) k = refused-kept t why p
+    one (Fail what) k = refl
 
 module _ (t : Tables) (c : TaskNumber) (o : Outcome Step) (s : Outcome Tables) (v : Verdict) where
   pub on-go : v ≡ Go → s ≡ keptBy tablesOf o → s ≡ keptBy tablesOf (settled v (stepOf t) c o)
@@ -191,6 +208,16 @@ caller-gate t c g a b x e u v w = e ∙ rw (u, v) (ap (λ (y : Task). admitted (
 
 -- WHAT A SERVICE LEAVES
 
+pub put-family : (t : Tables) (ts : List Task) → Packed t → withFamily t (familyOf ts) ≡ tablesOf (withTasks (stepOf t) ts)
+put-family t ts p = λ i. record {
+  over = t .over;
+  code = t .code;
+  family = familyOf ts;
+  queue = p .queue .form i;
+  events = t .events;
+  storage = p .storage .form i;
+}
+
 pub put-signals : (t : Tables) (ts : List Task) (es : List Ecb) → Packed t → withSignals t (eventsOf es) (familyOf ts) ≡ tablesOf (withEcbs (stepOf t) ts es)
 put-signals t ts es p = λ i. record {
   over = t .over;
@@ -211,6 +238,11 @@ put-areas t l p = λ i. record {
   storage = storedAreas l;
 }
 
+-- DISPATCH changes nothing
+pub dispatches : (t : Tables) (n : ℕ) (s : Outcome Tables) → Packed t → n ≡ dispatched (t .family .places) → s ≡ done n t → s ≡ keptBy tablesOf (dispatchBody (stepOf t))
+unfolding dispatchBody
+dispatches t n s p e a = a ∙ ap (λ (m : ℕ). done m t) e ∙ ap (done (dispatched (t .family .places))) (sym (packed-tables t p))
+
 -- A FRESH START
 
 module _ (limit dispatching : ℕ) where
@@ -225,31 +257,3 @@ module _ (limit dispatching : ℕ) where
   pub fresh-good : priorityGood limit ≡ true → leb dispatching limit ≡ true → freshOf limit dispatching ≡ done 0 (freshStep limit dispatching)
   unfolding freshOf pick
   fresh-good h k = rw (h, k)
-
--- VERDICTS
-
-module _ (es : List Ecb) (e : EcbNumber) where
-  pub clear-out : ecbGood (e .0) ≡ false → clearVerdict es e ≡ Refuse OutOfRange
-  unfolding clearVerdict pick
-  clear-out h = rw h
-
-  pub clear-waited : ecbGood (e .0) ≡ true → eqb (ecbAt es (e .0) .waiter .0) 0 ≡ false → clearVerdict es e ≡ Refuse WaitBitOn
-  unfolding clearVerdict pick
-  clear-waited h k = rw (h, k)
-
-  pub clear-goes : ecbGood (e .0) ≡ true → eqb (ecbAt es (e .0) .waiter .0) 0 ≡ true → clearVerdict es e ≡ Go
-  unfolding clearVerdict pick
-  clear-goes h k = rw (h, k)
-
-module _ (e : EcbNumber) (code : ℕ) where
-  pub post-out : ecbGood (e .0) ≡ false → postVerdict e code ≡ Refuse OutOfRange
-  unfolding postVerdict pick
-  post-out h = rw h
-
-  pub post-code : ecbGood (e .0) ≡ true → postCodeGood code ≡ false → postVerdict e code ≡ Refuse OutOfRange
-  unfolding postVerdict pick
-  post-code h k = rw (h, k)
-
-  pub post-goes : ecbGood (e .0) ≡ true → postCodeGood code ≡ true → postVerdict e code ≡ Go
-  unfolding postVerdict pick
-  post-goes h k = rw (h, k)

@@ -1,13 +1,9 @@
 pub mod Glue
 pub mod Endings
 pub mod Abending
-pub mod Attaching
-pub mod Waiting
-pub mod Storing
 pub mod Leaves
 pub mod Coded
-pub mod Releasing
-pub mod Queuing
 pub mod Serving
 pub mod Serves
 pub mod Promises
+pub mod Settling

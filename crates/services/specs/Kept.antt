@@ -3,20 +3,18 @@ use mathlib.Core.Path.{_≡_}
 use mathlib.Core.Bool.{Bool, true, false}
 use Prim.Native.Nat.{ℕ}
 use Rattle.lists.specs.Pick.{pick}
-use Rattle.lists.specs.Lists.{mapAt}
-use Rattle.kinds.specs.Tasks.{withCondition}
-use Rattle.kinds.specs.declared.tasks.Condition.the-variants.{EcbWait}
 use Rattle.kinds.specs.Replies.{numberOf, besidesOf}
 use Rattle.kinds.specs.declared.numbers.TaskNumber.{TaskNumber}
 use Rattle.kinds.specs.declared.replies.Refusal.the-variants.{Unsound}
 use Rattle.kinds.specs.declared.replies.Gate.{Gate}
 use Rattle.kinds.specs.declared.replies.Gate.the-variants.{Open, Shut}
+use Rattle.kinds.specs.declared.replies.Reply.{Reply}
 use Rattle.kinds.specs.declared.replies.Verdict.{Verdict}
+use Rattle.kinds.specs.declared.replies.Verdict.the-variants.{Go, Refuse, Fail}
 use mathlib.Core.List.{List}
 use Rattle.rules.specs.Steps.{Step, Outcome, Served, refused, keptBy, untouched}
-use Rattle.rules.specs.Family.{place, withPlace}
-use Rattle.rules.specs.Events.{Ecbs, signalled}
-use Rattle.rules.specs.Wait.{waitSet}
+use Rattle.rules.specs.Ending.{failing}
+use Rattle.rules.specs.Events.{signalled}
 use Rattle.rules.specs.Sound.{soundStep}
 use Rattle.rules.specs.Admission.{gateOf, openGate, settled, codesThrough}
 use Rattle.family.specs.Families.{familyOf}
@@ -76,15 +74,13 @@ abbrev pub postedIn : Tables → ℕ → ℕ → Tables
 postedIn t e code =
     withSignals t (eventsOf (signalled (t .family .places) (t .events .ecbs) e code .ecbs)) (familyOf (signalled (t .family .places) (t .events .ecbs) e code .tasks))
 
--- with task c waiting for so many posts, and its wait bit in each ECB of l that is incomplete
-abbrev pub waitingIn : Tables → ℕ → Ecbs → ℕ → Tables
-waitingIn t c l posts =
-    withSignals t (eventsOf (mapAt (waitSet c l) 0 (t .events .ecbs)))
-    (familyOf (withPlace (t .family .places) c (withCondition (place (t .family .places) c) (EcbWait posts))))
+-- what is answered, by the paper's number and value, and the tables
+abbrev pub replied : {T : Type 0} → Reply → T → Outcome T
+replied p t = record { number = numberOf p; besides = besidesOf p; tables = t }
 
--- what an answer says, by the paper's number and value
+-- what an answer says
 abbrev pub said : Answer → Outcome Tables
-said r = record { number = numberOf (r .reply); besides = besidesOf (r .reply); tables = r .tables }
+said r = replied (r .reply) (r .tables)
 
 -- sound tables: they keep a step, and the step breaks no rule
 unfoldable pub soundb : Tables → Bool
@@ -107,6 +103,12 @@ answeredWith t area f = pick (soundb t) (servedBy (f (stepOf t) area)) (untouche
 -- a coded service of an admitted caller: only where the verdict is to go on are codes written
 abbrev pub settledWith : Verdict → Step → TaskNumber → List ℕ → Served Step → Served Step
 settledWith v s c area o = record { outcome = settled v s c (o .outcome); codes = codesThrough Open v area (o .codes) }
+
+-- what a verdict makes of a service's own answer: a refusal leaves the tables, a program error ends the caller
+unfoldable pub settledIn : Verdict → Tables → TaskNumber → Outcome Tables → Outcome Tables
+settledIn Go t c o = o
+settledIn (Refuse why) t c o = refused why t
+settledIn (Fail what) t c o = keptBy tablesOf (failing what (stepOf t) c)
 
 -- a gate, with 100 before it
 unfoldable pub gated : Tables → (Step → Gate) → Gate

@@ -1,42 +1,29 @@
 // CLEAR.
 use crate::Answer;
 use crate::Tables;
-use kinds::Ecb;
 use kinds::EcbNumber;
 use kinds::Gate;
-use kinds::Refusal;
 use kinds::TaskNumber;
 ghost use mathlib.Core.Path.{_≡_};
-ghost use Rattle.rules.specs.Steps.{keptBy};
-ghost use Rattle.rules.specs.Clear.{clearBody, clearOf};
-ghost use Rattle.services.specs.Kept.{Packed, stepOf, tablesOf, said, answered};
+ghost use Rattle.rules.specs.Clear.{clearOf};
+ghost use Rattle.services.specs.Kept.{said, answered};
 
 impl Tables {
-    // CLEAR of an admitted caller.
-    fn clear_body(self, caller: TaskNumber, ecb: EcbNumber) -> Answer
-        requires { ⌜ Packed self ⌝ }
-        ensures { λ r. ⌜ said r ≡ keptBy tablesOf (clearBody (stepOf self) caller ecb) ⌝ }
-    {
-        if !ecb.is_good() {
-            return self.refused(Refusal::OutOfRange);
-        }
-        let e = self.events;
-        let f = self.family;
-        let old = events::at(e, ecb);
-        if old.waiter.0 != 0 {
-            return self.refused(Refusal::WaitBitOn);
-        }
-        let next = events::with_ecb(e, ecb, Ecb::zero());
-        self.signalled(next, f)
-    }
-
     // CLEAR: the event control block's word becomes zero.
     pub fn clear(self, caller: TaskNumber, ecb: EcbNumber) -> Answer
         ensures { λ r. ⌜ said r ≡ answered self (λ s. clearOf s caller ecb) ⌝ }
     {
         match self.gate(caller) {
             Gate::Shut(why) => self.refused(why),
-            Gate::Open => self.clear_body(caller, ecb),
+            Gate::Open => {
+                let e = self.events;
+                let f = self.family;
+                let k = signals::clears::cleared(e, f, ecb);
+                let verdict = k.verdict;
+                let l = k.tables;
+                let next = self.signalled(l);
+                self.settled(caller, verdict, next)
+            }
         }
     }
 }

@@ -7,27 +7,21 @@ use kinds::TaskNumber;
 use kinds::Verdict;
 ghost use mathlib.Core.Path.{_≡_};
 ghost use Rattle.rules.specs.Steps.{keptBy};
-ghost use Rattle.rules.specs.Detach.{detachDone, detachBody, detachOf};
+ghost use Rattle.rules.specs.Detach.{detachBody, detachOf};
 ghost use Rattle.services.specs.Kept.{Admitted, stepOf, tablesOf, said, answered};
 
 impl Tables {
-    // The task goes with all below it, and nothing is posted.
-    fn detach_done(self, caller: TaskNumber, task: TaskNumber) -> Answer
-        requires { ⌜ Admitted self caller ⌝ }
-        ensures { λ r. ⌜ said r ≡ keptBy tablesOf (detachDone (stepOf self) task) ⌝ }
-    {
-        let t = self.without(task, Task::free());
-        t.done(0)
-    }
-
-    // DETACH of an admitted caller.
+    // DETACH of an admitted caller: the task goes with all below it, and nothing is posted.
     fn detach_body(self, caller: TaskNumber, task: TaskNumber) -> Answer
         requires { ⌜ Admitted self caller ⌝ }
         ensures { λ r. ⌜ said r ≡ keptBy tablesOf (detachBody (stepOf self) caller task) ⌝ }
     {
         let f = self.family;
         match subtasks::verdicts::detach_verdict(f, caller, task) {
-            Verdict::Go => self.detach_done(caller, task),
+            Verdict::Go => {
+                let t = self.without(task, Task::free());
+                t.done(0)
+            }
             Verdict::Refuse(why) => self.refused(why),
             Verdict::Fail(what) => self.failed(caller, what),
         }

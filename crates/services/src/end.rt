@@ -6,19 +6,10 @@ use kinds::TaskNumber;
 use kinds::Verdict;
 ghost use mathlib.Core.Path.{_≡_};
 ghost use Rattle.rules.specs.Steps.{keptBy};
-ghost use Rattle.rules.specs.End.{endDone, endBody, endOf};
+ghost use Rattle.rules.specs.End.{endBody, endOf};
 ghost use Rattle.services.specs.Kept.{Admitted, stepOf, tablesOf, said, answered};
 
 impl Tables {
-    // The caller ends, with whatever is below it.
-    fn end_done(self, caller: TaskNumber, code: u16) -> Answer
-        requires { ⌜ Admitted self caller ⌝ }
-        ensures { λ r. ⌜ said r ≡ keptBy tablesOf (endDone (stepOf self) caller code) ⌝ }
-    {
-        let t = self.ended(caller, code);
-        t.done(0)
-    }
-
     // END of an admitted caller.
     fn end_body(self, caller: TaskNumber, code: u16) -> Answer
         requires { ⌜ Admitted self caller ⌝ }
@@ -26,7 +17,10 @@ impl Tables {
     {
         let f = self.family;
         match subtasks::verdicts::end_verdict(f, caller, code) {
-            Verdict::Go => self.end_done(caller, code),
+            Verdict::Go => {
+                let t = self.ended(caller, code);
+                t.done(0)
+            }
             Verdict::Refuse(why) => self.refused(why),
             Verdict::Fail(what) => self.failed(caller, what),
         }

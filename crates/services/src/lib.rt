@@ -14,7 +14,7 @@ pub mod post;
 pub mod serve;
 pub mod wait;
 
-use asks::codes::Codes;
+use claims::Claims;
 use events::Events;
 use family::Family;
 use kinds::Condition;
@@ -26,22 +26,21 @@ use kinds::Refusal;
 use kinds::Reply;
 use kinds::Task;
 use kinds::TaskNumber;
+use kinds::Verdict;
 use queue::Queue;
+use signals::Signals;
 use storage::Storage;
 ghost use mathlib.Core.Path.{_≡_};
-ghost use mathlib.Core.Bool.{true, false};
+ghost use mathlib.Core.Bool.{false};
 ghost use Prim.Native.Nat.{_≤_};
-ghost use lib.ListN.{length, take};
-ghost use Rattle.lists.specs.Pick.{pick};
-ghost use Rattle.kinds.specs.Limits.{highestEcb, longestList};
+ghost use Rattle.kinds.specs.Limits.{highestEcb};
 ghost use Rattle.kinds.specs.Tasks.{isLive, withCondition};
 ghost use Rattle.kinds.specs.declared.tasks.Condition.the-variants.{Ended};
-ghost use Rattle.rules.specs.Codes.{writtenOn};
-ghost use Rattle.rules.specs.Steps.{refused as refusedOf, done as doneOf, four as fourOf, keptBy, overStep};
+ghost use Rattle.rules.specs.Steps.{refused as refusedOf, done as doneOf, keptBy, overStep};
 ghost use Rattle.rules.specs.Ending.{endTasks, leftBy, ended as endedOf, failing};
 ghost use Rattle.rules.specs.Admission.{admitted};
 ghost use Rattle.laws.specs.Running.{Running};
-ghost use Rattle.services.specs.Kept.{Packed, Admitted, stepOf, tablesOf, withSignals, withStorage, postedIn, said, soundb, gateAt, openGateAt};
+ghost use Rattle.services.specs.Kept.{Packed, Admitted, stepOf, tablesOf, withFamily, withQueue, withSignals, withStorage, postedIn, said, replied, settledIn, soundb, gateAt, openGateAt};
 
 pub struct Tables {
     pub over: bool,
@@ -71,17 +70,6 @@ fn admit(over: bool, live: bool, waits: bool) -> Gate
         return Gate::Shut(Refusal::Waits);
     }
     Gate::Open
-}
-
-// The first n codes go to the front of the area if codes are due, and else no byte changes.
-fn write_due(due: bool, k: Codes, n: u32, area: &mut [u8])
-    requires { ⌜ (n ≤ longestList) × (due ≡ true → n ≤ length (now area)) ⌝ }
-    ensures { λ _. ⌜ now (area .exit) ≡ pick due (writtenOn (take n (k .bytes)) (now (area .entry))) (now (area .entry)) ⌝ }
-{
-    if !due {
-        return;
-    }
-    asks::codes::write(k, n, area);
 }
 
 impl Tables {
@@ -156,9 +144,11 @@ impl Tables {
     }
 
     // The ECBs and the tasks are as a service leaves them.
-    fn signalled(self, e: Events, f: Family) -> Answer
-        ensures { λ r. ⌜ said r ≡ doneOf 0 (withSignals self e f) ⌝ }
+    fn signalled(self, l: Signals) -> Answer
+        ensures { λ r. ⌜ said r ≡ doneOf 0 (withSignals self (l .events) (l .family)) ⌝ }
     {
+        let e = l.events;
+        let f = l.family;
         let mut next = self;
         next.events = e;
         next.family = f;
@@ -169,14 +159,41 @@ impl Tables {
     }
 
     // The areas are as a service leaves them.
-    fn stored(self, s: Storage, value: u32) -> Answer
-        ensures { λ r. ⌜ said r ≡ doneOf value (withStorage self s) ⌝ }
+    fn stored(self, s: Storage, reply: Reply) -> Answer
+        ensures { λ r. ⌜ said r ≡ replied reply (withStorage self s) ⌝ }
     {
         let mut next = self;
         next.storage = s;
         Answer {
             tables: next,
-            reply: Reply::Done(value),
+            reply,
+        }
+    }
+
+    // The queue and the tasks are as a service leaves them.
+    fn claimed(self, l: Claims, reply: Reply) -> Answer
+        ensures { λ r. ⌜ said r ≡ replied reply (withQueue self (l .family) (l .queue)) ⌝ }
+    {
+        let q = l.queue;
+        let f = l.family;
+        let mut next = self;
+        next.queue = q;
+        next.family = f;
+        Answer {
+            tables: next,
+            reply,
+        }
+    }
+
+    // The tasks are as a service leaves them.
+    fn attached(self, f: Family, reply: Reply) -> Answer
+        ensures { λ r. ⌜ said r ≡ replied reply (withFamily self f) ⌝ }
+    {
+        let mut next = self;
+        next.family = f;
+        Answer {
+            tables: next,
+            reply,
         }
     }
 
@@ -187,26 +204,6 @@ impl Tables {
             tables: self,
             reply: Reply::Done(value),
         }
-    }
-
-    // Answer 4 and 0 besides, with nothing changed.
-    fn four(self) -> Answer
-        ensures { λ r. ⌜ said r ≡ fourOf self ⌝ }
-    {
-        Answer {
-            tables: self,
-            reply: Reply::Four,
-        }
-    }
-
-    // 0 if every code is 0, else 4.
-    fn coded(self, zero: bool) -> Answer
-        ensures { λ r. ⌜ said r ≡ pick zero (doneOf 0 self) (fourOf self) ⌝ }
-    {
-        if zero {
-            return self.done(0);
-        }
-        self.four()
     }
 
     // The one ending. Task n and all below it end: n's place becomes `last`, and what belonged to those who are live no more goes with them.
@@ -286,6 +283,18 @@ impl Tables {
         Answer {
             tables: t,
             reply: Reply::Failed(what),
+        }
+    }
+
+    // What the verdict of an admitted caller's service comes to: only where it is to go on does the service's own answer stand.
+    fn settled(self, caller: TaskNumber, verdict: Verdict, next: Answer) -> Answer
+        requires { ⌜ Admitted self caller ⌝ }
+        ensures { λ r. ⌜ said r ≡ settledIn verdict self caller (said next) ⌝ }
+    {
+        match verdict {
+            Verdict::Go => next,
+            Verdict::Refuse(why) => self.refused(why),
+            Verdict::Fail(what) => self.failed(caller, what),
         }
     }
 }

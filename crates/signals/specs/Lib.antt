@@ -1,3 +1,4 @@
 pub mod Posts
+pub mod Served
 pub mod Sound
 pub mod Steps

@@ -1,11 +1,15 @@
 // A post: the event control blocks and the tasks that wait for them.
+pub mod clears;
 pub mod ending;
+pub mod posts;
+pub mod waits;
 
 use events::Events;
 use family::Family;
 use kinds::Condition;
 use kinds::EcbNumber;
 use kinds::TaskNumber;
+use kinds::Verdict;
 ghost use mathlib.Core.Path.{_≡_};
 ghost use Prim.Native.Nat.{_≤_, _<_};
 ghost use Rattle.kinds.specs.Limits.{highestTask, highestEcb};
@@ -18,6 +22,22 @@ ghost use Rattle.signals.specs.Posts.{signalsOf};
 pub struct Signals {
     pub events: Events,
     pub family: Family,
+}
+
+// What a service makes of them: its verdict, and the tables, which change only where it goes on.
+pub struct Signalled {
+    pub verdict: Verdict,
+    pub tables: Signals,
+}
+
+fn unchanged(verdict: Verdict, e: Events, f: Family) -> Signalled
+    ensures { λ r. ⌜ r ≡ record { verdict = verdict; tables = record { events = e; family = f } } ⌝ }
+{
+    let l = Signals {
+        events: e,
+        family: f,
+    };
+    Signalled { verdict, tables: l }
 }
 
 // Every waiter is in an ECB wait. The places are read here, so that no table is copied for each ECB.

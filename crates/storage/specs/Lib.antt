@@ -1,4 +1,3 @@
 pub mod Stored
 pub mod Kept
 pub mod Changes
-pub mod Found

@@ -1,10 +1,4 @@
-// The storage table: areas by rising address, packed, and the tests of where they lie.
-pub mod asked;
-pub mod freemain;
-pub mod getmain;
-pub mod room;
-
-use kinds::Address;
+// The storage table: areas by rising address, packed.
 use kinds::Area;
 ghost use mathlib.Core.Path.{_≡_};
 ghost use mathlib.Core.Bool.{not};
@@ -14,8 +8,8 @@ ghost use lib.Seq.{slice};
 ghost use Rattle.lists.specs.Lists.{some, keep};
 ghost use Rattle.kinds.specs.Limits.{mostAreas};
 ghost use Rattle.kinds.specs.declared.areas.Area.{Area};
-ghost use Rattle.rules.specs.Storage.{startOf, endOf, oneHolder, bytesApart, firstPage, pastPage, pagesApart, apart as apartOf, sameArea, insertedIn};
-ghost use Rattle.rules.specs.SoundAreas.{areasFit, areaShapeGood, areaShapesGood, areasRise, areasApart};
+ghost use Rattle.rules.specs.Storage.{sameArea, insertedIn};
+ghost use Rattle.rules.specs.SoundAreas.{areasFit, areaShapesGood, areasRise, areasApart};
 ghost use Rattle.storage.specs.Stored.{stored, live, Packed, isZero, restZero, packedb};
 ghost use Rattle.storage.specs.Changes.{appended, extended, rankIn, insertedAt};
 
@@ -35,92 +29,11 @@ pub fn empty() -> Storage
     }
 }
 
-// In u64, since a table may hold any numbers and the sum of two u32 can overflow.
-fn start_of(a: Area) -> u64
-    ensures { λ r. ⌜ r ≡ startOf a ⌝ }
-{
-    a.start.0 as u64
-}
-
-fn end_of(a: Area) -> u64
-    ensures { λ r. ⌜ r ≡ endOf a ⌝ }
-{
-    a.start.0 as u64 + a.size as u64
-}
-
-pub fn one_holder(a: Area, b: Area) -> bool
-    ensures { λ r. ⌜ r ≡ oneHolder a b ⌝ }
-{
-    if a.owner.0 != b.owner.0 {
-        return false;
-    }
-    a.subpool == b.subpool
-}
-
-// No byte in common.
-pub fn bytes_apart(a: Area, b: Area) -> bool
-    ensures { λ r. ⌜ r ≡ bytesApart a b ⌝ }
-{
-    if end_of(a) <= start_of(b) {
-        return true;
-    }
-    end_of(b) <= start_of(a)
-}
-
-// The first page that an area touches, and the page past its last.
-fn first_page(a: Area) -> u64
-    ensures { λ r. ⌜ r ≡ firstPage a ⌝ }
-{
-    start_of(a) / Address::PAGE as u64
-}
-
-fn past_page(a: Area) -> u64
-    ensures { λ r. ⌜ r ≡ pastPage a ⌝ }
-{
-    let page = Address::PAGE as u64;
-    (end_of(a) + (page - 1)) / page
-}
-
-// No page in common.
-pub fn pages_apart(a: Area, b: Area) -> bool
-    ensures { λ r. ⌜ r ≡ pagesApart a b ⌝ }
-{
-    if past_page(a) <= first_page(b) {
-        return true;
-    }
-    past_page(b) <= first_page(a)
-}
-
-// No byte in common, and no page unless of one holder.
-pub fn apart(a: Area, b: Area) -> bool
-    ensures { λ r. ⌜ r ≡ apartOf a b ⌝ }
-{
-    if !bytes_apart(a, b) {
-        return false;
-    }
-    if one_holder(a, b) {
-        return true;
-    }
-    pages_apart(a, b)
-}
-
-pub fn same_area(a: Area, b: Area) -> bool
-    ensures { λ r. ⌜ r ≡ sameArea a b ⌝ }
-{
-    if a.start.0 != b.start.0 {
-        return false;
-    }
-    if a.size != b.size {
-        return false;
-    }
-    one_holder(a, b)
-}
-
 fn is_zero(a: Area) -> bool
     ensures { λ r. ⌜ r ≡ isZero a ⌝ }
 {
     let z = Area::zero();
-    same_area(a, z)
+    areas::same_area(a, z)
 }
 
 // The unused places are zero.
@@ -156,25 +69,6 @@ pub fn areas_fit(s: Storage) -> bool
     s.count <= Area::PLACES
 }
 
-// Whole doublewords of the region, of a legal subpool.
-pub fn shape_good(a: Area) -> bool
-    ensures { λ r. ⌜ r ≡ areaShapeGood a ⌝ }
-{
-    if a.size == 0 {
-        return false;
-    }
-    if a.size % Address::DOUBLEWORD != 0 {
-        return false;
-    }
-    if a.start.0 % Address::DOUBLEWORD != 0 {
-        return false;
-    }
-    if (Address::REGION as u64) < end_of(a) {
-        return false;
-    }
-    Area::subpool_good(a.subpool)
-}
-
 pub fn shapes_good(s: Storage) -> bool
     requires { ⌜ s .count ≤ mostAreas ⌝ }
     ensures { λ r. ⌜ r ≡ areaShapesGood (live s) ⌝ }
@@ -183,7 +77,7 @@ pub fn shapes_good(s: Storage) -> bool
     let mut i = 0;
     while i < n {
         let x = s.areas[i];
-        if !shape_good(x) {
+        if !areas::shape_good(x) {
             return false;
         }
         i += 1;
@@ -222,7 +116,7 @@ pub fn areas_apart(s: Storage) -> bool
         let mut j = i;
         while j < n {
             let y = s.areas[j];
-            if !apart(x, y) {
+            if !areas::apart(x, y) {
                 return false;
             }
             j += 1;
@@ -305,7 +199,7 @@ pub fn has_area(s: Storage, a: Area) -> bool
     let mut i = 0;
     while i < n {
         let x = s.areas[i];
-        if same_area(a, x) {
+        if areas::same_area(a, x) {
             return true;
         }
         i += 1;
@@ -323,7 +217,7 @@ pub fn without(s: Storage, a: Area) -> Storage
     let mut i = 0;
     while i < n {
         let x = s.areas[i];
-        if !same_area(a, x) {
+        if !areas::same_area(a, x) {
             let at = r.count;
             r.areas[at] = x;
             r.count = at + 1;

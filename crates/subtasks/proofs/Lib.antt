@@ -1,4 +1,5 @@
 pub mod Attaching
+pub mod NewTask
 pub mod Sums
 pub mod Walks
 pub mod Freeing

@@ -3,11 +3,21 @@ use family::Family;
 use kinds::Condition;
 use kinds::MaybeEcb;
 use kinds::Refusal;
+use kinds::Reply;
 use kinds::Task;
 use kinds::TaskNumber;
 use kinds::Verdict;
 ghost use mathlib.Core.Path.{_≡_};
+ghost use Rattle.kinds.specs.declared.replies.Reply.the-variants.{Done};
 ghost use Rattle.rules.specs.Attach.{newLimit, newDispatching, newTask, attachVerdict};
+ghost use Rattle.subtasks.specs.Attaching.{attachedBy};
+
+// What ATTACH makes of the task table, which changes only where its verdict is to go on.
+pub struct Attached {
+    pub verdict: Verdict,
+    pub reply: Reply,
+    pub family: Family,
+}
 
 // The mother's limit less LPMOD, or 0 if that is negative.
 fn new_limit(limit: u8, lpmod: u16) -> u8
@@ -35,7 +45,7 @@ fn new_dispatching(dispatching: u8, dpmod: i16, limit: u8) -> u8
 }
 
 // The new task's place: m is its mother's, whose number is c.
-pub fn new_task(m: Task, c: TaskNumber, lpmod: u16, dpmod: i16, ecb: MaybeEcb) -> Task
+fn new_task(m: Task, c: TaskNumber, lpmod: u16, dpmod: i16, ecb: MaybeEcb) -> Task
     ensures { λ r. ⌜ r ≡ newTask m c lpmod dpmod ecb ⌝ }
 {
     let limit = new_limit(m.limit, lpmod);
@@ -50,7 +60,7 @@ pub fn new_task(m: Task, c: TaskNumber, lpmod: u16, dpmod: i16, ecb: MaybeEcb) -
 }
 
 // 101, then 106.
-pub fn attach_verdict(f: Family, lpmod: u16, dpmod: i16, ecb: MaybeEcb) -> Verdict
+fn attach_verdict(f: Family, lpmod: u16, dpmod: i16, ecb: MaybeEcb) -> Verdict
     ensures { λ r. ⌜ r ≡ attachVerdict (f .places) lpmod dpmod ecb ⌝ }
 {
     if !Task::priority_good(lpmod) {
@@ -67,4 +77,35 @@ pub fn attach_verdict(f: Family, lpmod: u16, dpmod: i16, ecb: MaybeEcb) -> Verdi
         return Verdict::Refuse(Refusal::NoTaskFree);
     }
     Verdict::Go
+}
+
+fn unchanged(verdict: Verdict, f: Family) -> Attached
+    ensures { λ r. ⌜ r ≡ record { verdict = verdict; reply = Done 0; family = f } ⌝ }
+{
+    Attached {
+        verdict,
+        reply: Reply::Done(0),
+        family: f,
+    }
+}
+
+// ATTACH's tests; where they go on, the new task has the lowest free place, and the caller for its mother.
+pub fn attach(f: Family, caller: TaskNumber, lpmod: u16, dpmod: i16, ecb: MaybeEcb) -> Attached
+    ensures { λ r. ⌜ r ≡ attachedBy (attachVerdict (f .places) lpmod dpmod ecb) f caller lpmod dpmod ecb ⌝ }
+{
+    match attach_verdict(f, lpmod, dpmod, ecb) {
+        Verdict::Go => {
+            let n = family::choice::lowest_free(f);
+            let m = family::at(f, caller);
+            let x = new_task(m, caller, lpmod, dpmod, ecb);
+            let g = family::with_place(f, n, x);
+            Attached {
+                verdict: Verdict::Go,
+                reply: Reply::Done(n.0 as u32),
+                family: g,
+            }
+        }
+        Verdict::Refuse(why) => unchanged(Verdict::Refuse(why), f),
+        Verdict::Fail(what) => unchanged(Verdict::Fail(what), f),
+    }
 }

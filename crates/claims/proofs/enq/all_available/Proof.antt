@@ -1,0 +1,23 @@
+use mathlib.Core.Path.{_≡_, _∙_}
+use lib.ListN.{length}
+use native.Mathlib.Omega.{arith}
+use Rattle.lists.specs.Arrays.{mapped-length}
+use Rattle.kinds.specs.Limits.{longestList}
+use Rattle.flags.proofs.Flagged.{every-flag}
+use borrow.Author.Needs.{needs}
+use Rattle.claims.proofs.enq.all_available.Statement.{statement}
+use Rattle.claims.proofs.enq.all_available.Tie as tie
+
+available-requires : tie.Need-available-requires
+available-requires c κs = search needs
+
+all-set-requires : tie.Need-all-set-requires
+all-set-requires c κs = search needs
+
+returns : tie.Need-returns
+returns c =
+    let h : length ((c .before .before .args) .names .names) ≡ longestList = search (needs, mapped-length) in
+    (c .all-set) .ensures ∙ every-flag _ ((c .before .before .args) .names) _ ((c .before .available) .ensures) (omega arith)
+
+pub all-available-spec : {M : Type 1} → statement M
+all-available-spec = tie.close (tie.spec available-requires all-set-requires returns)

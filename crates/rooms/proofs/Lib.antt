@@ -1,0 +1,3 @@
+pub mod Verdicts
+pub mod Trials
+pub mod Bodies

@@ -1,3 +1,4 @@
 pub mod Coding
 pub mod Changes
 pub mod Verdicts
+pub mod Promises

@@ -1,3 +1,4 @@
 pub mod Builds
 pub mod Looking
 pub mod Exclusive
+pub mod Promises

@@ -1,3 +1,4 @@
 pub mod Filled
 pub mod Flagged
 pub mod Soles
+pub mod Promises

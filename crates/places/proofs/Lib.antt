@@ -1,1 +1,2 @@
 pub mod Mothers
+pub mod Promises

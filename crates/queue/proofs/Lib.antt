@@ -3,3 +3,4 @@ pub mod Tests
 pub mod Barring
 pub mod Passes
 pub mod Sweeps
+pub mod Promises

@@ -1,3 +1,4 @@
 pub mod Verdicts
 pub mod Trials
 pub mod Bodies
+pub mod Promises

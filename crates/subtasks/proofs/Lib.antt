@@ -3,3 +3,4 @@ pub mod NewTask
 pub mod Sums
 pub mod Walks
 pub mod Freeing
+pub mod Promises

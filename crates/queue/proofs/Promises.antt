@@ -1,0 +1,39 @@
+-- No second result fits the contract of a public function, whoever wrote it. Assumes nothing.
+use mathlib.Core.Path.{sym, _∙_}
+use Rattle.lists.specs.Promise.{Once}
+use Rattle.queue.proofs.empty.Reads as empty
+use Rattle.queue.proofs.packed.Reads as packed
+use Rattle.queue.proofs.queue_fits.Reads as queue-fits
+use Rattle.queue.proofs.bars.Reads as bars
+use Rattle.queue.proofs.entries_once.Reads as entries-once
+use Rattle.queue.proofs.entry_names_good.Reads as entry-names-good
+use Rattle.queue.proofs.lacking.Reads as lacking
+use Rattle.queue.proofs.marks.all_marks.Reads as all-marks
+use Rattle.queue.proofs.marks.no_marks.Reads as no-marks
+
+pub empty-once : Once empty.Post
+empty-once k a x y e d p q = p ∙ sym q
+
+pub packed-once : Once packed.Post
+packed-once k a x y e d p q = p ∙ sym q
+
+pub queue-fits-once : Once queue-fits.Post
+queue-fits-once k a x y e d p q = p ∙ sym q
+
+pub bars-once : Once bars.Post
+bars-once k a x y e d p q = p ∙ sym q
+
+pub entries-once-once : Once entries-once.Post
+entries-once-once k a x y e d p q = p ∙ sym q
+
+pub entry-names-good-once : Once entry-names-good.Post
+entry-names-good-once k a x y e d p q = p ∙ sym q
+
+pub lacking-once : Once lacking.Post
+lacking-once k a x y e d p q = p ∙ sym q
+
+pub all-marks-once : Once all-marks.Post
+all-marks-once k a x y e d p q = p ∙ sym q
+
+pub no-marks-once : Once no-marks.Post
+no-marks-once k a x y e d p q = p ∙ sym q

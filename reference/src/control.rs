@@ -1,0 +1,74 @@
+//! Who has control of a name, who waits for whom.
+
+use crate::names::Asked;
+use crate::numbers::TASKS;
+use crate::tables::{Entry, Step};
+
+/// Are both for one name, and one of the two exclusive?
+fn clash(a: &Entry, b: &Entry) -> bool {
+    (a.excl != 0 || b.excl != 0) && a.name == b.name
+}
+
+/// "An entry has control when it is first for its name, or when it and every
+/// entry before it for that name are shared."  So it lacks control exactly when
+/// some entry before it is for its name, one of the two being exclusive.
+pub fn has_control(entries: &[Entry], i: usize) -> bool {
+    entries[..i].iter().all(|before| !clash(before, &entries[i]))
+}
+
+/// "A name is available when its queue is empty, or the request and every entry
+/// queued for it are shared."
+pub fn is_available(entries: &[Entry], asked: &Asked) -> bool {
+    entries.iter().all(|e| e.name != asked.name || (e.excl == 0 && !asked.exclusive))
+}
+
+/// The place of a task's entry for a name; tables hold at most one.
+pub fn entry_of(entries: &[Entry], task: u32, asked: &Asked) -> Option<usize> {
+    entries.iter().position(|e| e.task == task && e.name == asked.name)
+}
+
+/// For each task number: has it an entry that lacks control?
+pub fn lacking(entries: &[Entry]) -> [bool; TASKS as usize + 1] {
+    let mut lacks = [false; TASKS as usize + 1];
+    for i in 0..entries.len() {
+        let task = entries[i].task as usize;
+        if task < lacks.len() && !lacks[task] {
+            lacks[task] = !has_control(entries, i);
+        }
+    }
+    lacks
+}
+
+/// After any change of the queue: a task waits "until all its entries have control".
+pub fn settle(step: &mut Step) {
+    let lacks = lacking(step.used_entries());
+    for n in 1..=TASKS as usize {
+        step.tasks[n].rwait = lacks[n] as u32;
+    }
+}
+
+/// "Task A waits for another task B when A has an entry without control and B an
+/// earlier one for that name, one of the two being exclusive"
+pub fn waits_for(step: &Step, a: u32, b: u32) -> bool {
+    let entries = step.used_entries();
+    a != b
+        && (0..entries.len()).any(|i| {
+            entries[i].task == a
+                && entries[..i].iter().any(|e| e.task == b && clash(e, &entries[i]))
+        })
+}
+
+/// "a ring is such steps leading back to their start": is the task on one?
+pub fn is_on_ring(step: &Step, start: u32) -> bool {
+    let mut reached = [false; TASKS as usize + 1];
+    let mut open = vec![start];
+    while let Some(a) = open.pop() {
+        for b in 1..=TASKS {
+            if !reached[b as usize] && waits_for(step, a, b) {
+                reached[b as usize] = true;
+                open.push(b);
+            }
+        }
+    }
+    reached[start as usize]
+}

@@ -1,0 +1,45 @@
+//! Names of resources.
+
+use crate::numbers::{MAJOR, MINOR};
+
+/// "A name is a major part of 8 bytes and a minor part of 1 to 44 bytes,
+/// compared with its length."  Bytes past the length are kept zero by the
+/// script reader; tables in which they are not zero are unsound, so that the
+/// derived comparison is the comparison of the used bytes and the length.
+#[derive(Clone, Copy, PartialEq, Eq, Debug)]
+pub struct Name {
+    pub major: [u8; MAJOR],
+    pub length: u32,
+    pub minor: [u8; MINOR],
+}
+
+impl Name {
+    pub const NONE: Name = Name { major: [0; MAJOR], length: 0, minor: [0; MINOR] };
+
+    /// Is the minor part neither empty nor too long?
+    pub fn length_is_legal(&self) -> bool {
+        1 <= self.length && self.length <= MINOR as u32
+    }
+
+    /// Are the bytes past the length zero?
+    pub fn rest_is_zero(&self) -> bool {
+        let used = MINOR.min(self.length as usize);
+        self.minor[used..].iter().all(|byte| *byte == 0)
+    }
+}
+
+/// A name in a request: "each shared or exclusive".  DEQ leaves `exclusive` alone.
+#[derive(Clone, Copy, Debug)]
+pub struct Asked {
+    pub exclusive: bool,
+    pub name: Name,
+}
+
+impl Asked {
+    pub const NONE: Asked = Asked { exclusive: false, name: Name::NONE };
+}
+
+/// Does a name stand twice in the list?  Its mode is no part of a name.
+pub fn stands_twice(list: &[Asked]) -> bool {
+    (0..list.len()).any(|i| list[..i].iter().any(|earlier| earlier.name == list[i].name))
+}

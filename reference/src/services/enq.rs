@@ -1,0 +1,101 @@
+//! ENQ
+
+use super::{all_zero, answer_with_codes};
+use crate::control::{entry_of, has_control, is_available, settle};
+use crate::ending::program_error;
+use crate::names::Asked;
+use crate::numbers::{ENTRIES, LIST};
+use crate::request::{Answer, Ret};
+use crate::tables::{Entry, Step};
+
+pub fn enq(step: &mut Step, caller: u32, ret: Ret, names: &[Asked], codes: &mut [u8]) -> Answer {
+    if ret == Ret::None {
+        return unconditional(step, caller, names);
+    }
+    let mut room = [0u8; LIST];
+    for (code, asked) in room.iter_mut().zip(names) {
+        *code = code_of(step.used_entries(), caller, ret, asked);
+    }
+    let found = &room[..names.len()];
+    if all_zero(found) {
+        match ret {
+            Ret::Chng => make_exclusive(step, caller, names),
+            Ret::Use | Ret::Have => {
+                if !queue_all(step, caller, names) {
+                    return Answer::refused(105);
+                }
+            }
+            Ret::Test | Ret::None => {}
+        }
+    }
+    answer_with_codes(found, codes)
+}
+
+/// NONE: "queue all; duplicate is error 201"
+fn unconditional(step: &mut Step, caller: u32, names: &[Asked]) -> Answer {
+    if names.iter().any(|asked| entry_of(step.used_entries(), caller, asked).is_some()) {
+        return program_error(step, caller, 201);
+    }
+    if !queue_all(step, caller, names) {
+        return Answer::refused(105);
+    }
+    Answer::done(0)
+}
+
+/// The table of RET kinds; "8 goes before 4".
+fn code_of(entries: &[Entry], caller: u32, ret: Ret, asked: &Asked) -> u8 {
+    let own = entry_of(entries, caller, asked);
+    match (ret, own) {
+        (Ret::Chng, None) => 8,
+        (Ret::Chng, Some(place)) => chng_code(entries, place),
+        (_, Some(_)) => 8,
+        (Ret::Test, None) | (Ret::Use, None) => {
+            if is_available(entries, asked) {
+                0
+            } else {
+                4
+            }
+        }
+        (Ret::Have, None) | (Ret::None, None) => 0,
+    }
+}
+
+/// CHNG for an entry the caller has: 0 "caller is sole owner", 4 "another also owns".
+/// "CHNG on an entry already exclusive is 0."  An owner is a task whose entry has
+/// control.
+fn chng_code(entries: &[Entry], place: usize) -> u8 {
+    let own = &entries[place];
+    let another_owns =
+        |i: usize| i != place && entries[i].name == own.name && has_control(entries, i);
+    if own.excl == 0 && (0..entries.len()).any(another_owns) {
+        4
+    } else {
+        0
+    }
+}
+
+/// "make all exclusive"; each keeps its place.
+fn make_exclusive(step: &mut Step, caller: u32, names: &[Asked]) {
+    for asked in names {
+        if let Some(place) = entry_of(step.used_entries(), caller, asked) {
+            step.entries[place].excl = 1;
+        }
+    }
+    settle(step);
+}
+
+/// "New entries go to the tail, in list order."  "After NONE or HAVE the caller waits
+/// until all its entries have control."  False, and nothing changed, is 105: "entries
+/// are to be queued and there are too few free".
+fn queue_all(step: &mut Step, caller: u32, names: &[Asked]) -> bool {
+    if names.len() > ENTRIES - step.entry_count {
+        return false;
+    }
+    for asked in names {
+        step.entries[step.entry_count] =
+            Entry { task: caller, excl: asked.exclusive as u32, name: asked.name };
+        step.entry_count += 1;
+    }
+    settle(step);
+    true
+}

@@ -1,0 +1,50 @@
+//! The reference's own tests.
+
+mod corners;
+mod generated;
+mod hand;
+mod literal;
+mod refusals;
+mod text;
+mod unsound;
+
+use crate::runner::run;
+
+/// The output of a script.
+pub fn output(script: &[u8]) -> Vec<u8> {
+    let mut out = Vec::new();
+    run(&mut &script[..], &mut out).unwrap();
+    out
+}
+
+/// The output of a script, as lines.
+pub fn answers(script: &str) -> Vec<String> {
+    let text = String::from_utf8(output(script.as_bytes())).unwrap();
+    text.lines().map(|line| line.to_string()).collect()
+}
+
+/// Runs the left sides as a script; each must answer its right side.  A left side `dump`
+/// has the lines of the dump but `.`, each without what follows its `*`, if any.
+pub fn expect(pairs: &[(&str, &str)]) {
+    let script: Vec<&str> = pairs.iter().map(|pair| pair.0).collect();
+    let got = answers(&script.join("\n"));
+    let mut wanted = Vec::new();
+    for (line, answer) in pairs {
+        wanted.extend(answer.lines().map(|a| a.trim().to_string()).filter(|a| !a.is_empty()));
+        if *line == "dump" {
+            wanted.push(".".to_string());
+        }
+    }
+    for (i, answer) in wanted.iter().enumerate() {
+        assert_eq!(got.get(i), Some(answer), "answer {} of {:?}\nall: {:#?}", i + 1, pairs, got);
+    }
+    assert_eq!(got.len(), wanted.len());
+}
+
+/// The lines of a dump, taken at the end of a script, that begin with a word.
+pub fn dumped(script: &str, word: &str) -> Vec<String> {
+    let mut all = answers(&format!("{}\ndump", script));
+    let from = all.iter().rposition(|line| line.starts_with("step ")).unwrap();
+    all.drain(..from);
+    all.into_iter().filter(|line| line.starts_with(word)).collect()
+}

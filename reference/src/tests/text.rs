@@ -1,0 +1,210 @@
+//! The form of scripts.
+
+use super::{answers, dumped, expect, output};
+
+#[test]
+fn nothing_and_the_last_line() {
+    assert_eq!(output(b""), b"");
+    assert_eq!(output(b"\n\n# comment\n#"), b"");
+    assert_eq!(output(b"\nx"), b"? 2\n");
+    assert_eq!(output(b"dump"), b"step 1 0\n.\n");
+    assert_eq!(output(b"dispatch\r\n"), b"? 1\n");
+    assert_eq!(output(b"dispatch\0\n\0\n#\0\n"), b"? 1\n? 2\n");
+    assert_eq!(output(b"\xff\n \n"), b"? 1\n? 2\n");
+}
+
+const UNREADABLE: [&str; 76] = [
+    " dispatch",
+    "dispatch ",
+    "dispatch x",
+    "Dispatch",
+    "dump x",
+    "dump ",
+    "fresh",
+    "fresh 1",
+    "fresh 1 2 3",
+    "fresh  1 2",
+    "fresh +1 2",
+    "fresh 1 -2",
+    "fresh 4294967296 0",
+    "fresh 00000000001 0",
+    "fresh 1\t2",
+    "attach 1 0 0",
+    "attach 1 0 +1 -",
+    "attach 1 0 - -",
+    "attach 1 0 2147483648 -",
+    "attach 1 0 -2147483649 -",
+    "attach 1 0 --1 -",
+    "attach - 0 0 -",
+    "attach 1 -1 0 -",
+    "attach 1 0 0 -1",
+    "detach 1",
+    "detach 1 2 3",
+    "end 1",
+    "abend 1 0 STEP",
+    "abend 1 0 step step",
+    "abend 1 0 ",
+    "enq 1 none",
+    "enq 1 None 0",
+    "enq 1 all 0",
+    "deq 1 test 0",
+    "enq 1 none 65",
+    "enq 1 none 0 0000000000000000.00",
+    "deq 1 none 0 S:0000000000000000.00",
+    "enq 1 none 0 s:0000000000000000.00",
+    "enq 1 none 0 S:000000000000000.00",
+    "enq 1 none 0 S:00000000000000000.00",
+    "enq 1 none 0 S:0000000000000000",
+    "enq 1 none 0 S:0000000000000000.0",
+    "enq 1 none 0 S:0000000000000000.0g",
+    "enq 1 none 0 S:0000000000000000.00/",
+    "enq 1 none 0 S:0000000000000000.00/301",
+    "enq 1 none 0 S:0000000000000000.00/1/1",
+    "enq 1 none 0 S:0000000000000000.00/-1",
+    "enq 1 none 0 S:0000000000000000/1",
+    "wait 1",
+    "wait",
+    "wait 1 x",
+    "post 1 2",
+    "clear 1",
+    "getmain 1 8 0",
+    "getmain 1 8 0 COND",
+    "getmain 1 8 0 cond x",
+    "freemain 1 0 8",
+    "poke",
+    "poke step",
+    "poke step over",
+    "poke step mother 1",
+    "poke step over 4294967296",
+    "poke step 0 over 1",
+    "poke task 0 state 1",
+    "poke task 33 state 1",
+    "poke task 1 task 1",
+    "poke entry 128 task 1",
+    "poke entry 0 major 00",
+    "poke entry 0 name 0",
+    "poke entry 0 major 000000000000000g",
+    "poke ecb 64 wait 0",
+    "poke ecb 0 need 1",
+    "poke area 128 owner 0",
+    "poke area 0 task 0",
+    "poke area 0 owner x",
+    "poke task 1 limit -1",
+];
+
+#[test]
+fn unreadable_lines() {
+    for line in UNREADABLE.iter() {
+        assert_eq!(answers(line), ["? 1"], "{}", line);
+    }
+}
+
+#[test]
+fn readable_variants() {
+    for (line, answer) in [
+        ("fresh 0000000001 01", "0 0"),
+        ("attach 0000000300 9999 0 -", "108 0"),
+        ("attach 1 0 -0 -", "108 0"),
+        ("attach 1 0 -2147483648 4294967295", "108 0"),
+        ("attach 1 0 2147483647 0", "108 0"),
+        ("abend 1 0 step", "108 0"),
+        ("enq 1 none 64", "108 0"),
+        ("enq 1 none 0000000000 E:abcdefABCDEF0123./0000000300", "108 0"),
+        ("deq 1 have 0 abcdefABCDEF0123.", "108 0"),
+        ("wait 1 4294967295", "108 0"),
+        ("poke task 01 state 0", "ok"),
+        ("poke area 0000000127 owner 0", "ok"),
+    ]
+    .iter()
+    {
+        assert_eq!(answers(line), [*answer], "{}", line);
+    }
+}
+
+#[test]
+fn twenty_names_and_ecbs() {
+    let names = |n: usize| -> String { (0..n).map(|i| format!(" E:{:016x}.00", i)).collect() };
+    let ecbs = |n: usize| -> String { (0..n).map(|i| format!(" {}", i)).collect() };
+    for (n, names_answer) in [(16, "0 0"), (17, "101 0"), (20, "101 0"), (21, "? 2")].iter() {
+        assert_eq!(answers(&format!("fresh 1 1\nenq 1 none 0{}", names(*n)))[1], *names_answer);
+        assert_eq!(answers(&format!("fresh 1 1\nwait 1 0{}", ecbs(*n)))[1], *names_answer);
+        let deq = format!("fresh 1 1\ndeq 1 have 64{}", names(*n)).replace("E:", "");
+        let wanted = names_answer.replace("0 0", "4 0 codes=");
+        assert!(answers(&deq)[1].starts_with(&wanted) || *n != 16, "{}", n);
+    }
+}
+
+#[test]
+fn minor_names() {
+    let longest = format!("enq 1 none 0 E:0000000000000000.{}", "aB".repeat(300));
+    assert_eq!(answers(&format!("fresh 1 1\n{}", longest))[1], "101 0");
+    assert_eq!(answers(&format!("fresh 1 1\n{}/2", longest))[1], "0 0");
+    assert_eq!(answers(&format!("fresh 1 1\n{}aa/2", longest))[1], "? 2");
+    let kept = dumped(&format!("fresh 1 1\n{}/2", longest), "entry");
+    assert_eq!(kept, [format!("entry 0 1 1 0000000000000000 2 abab{}", "00".repeat(42))]);
+    let padded = dumped("fresh 1 1\nenq 1 none 0 S:FF00000000000000.01/44", "entry");
+    assert_eq!(padded, [format!("entry 0 1 0 ff00000000000000 44 01{}", "00".repeat(43))]);
+}
+
+#[test]
+fn long_lines() {
+    let comment = format!("#{}\nx", "a".repeat(16_382));
+    assert_eq!(answers(&comment), ["? 2"]);
+    assert_eq!(answers(&"a".repeat(16_383)), ["? 1"]);
+    assert_eq!(answers(&format!("{}\ndispatch", " ".repeat(20_000))), ["? 1", "108 0"]);
+    let names: String =
+        (0..20).map(|i| format!(" E:{:016x}.{}/0000000001", i, "ab".repeat(300))).collect();
+    assert_eq!(answers(&format!("fresh 1 1\nenq 0000000001 none 0000000064{}", names))[1], "101 0");
+}
+
+#[test]
+fn a_million_lines() {
+    let mut script = b"\n".repeat(999_999);
+    script.extend_from_slice(b"?");
+    assert_eq!(output(&script), b"? 1000000\n");
+}
+
+#[test]
+fn pokes_and_dumps() {
+    expect(&[
+        ("poke step over 0", "ok"),
+        ("poke task 32 limit 7", "ok"),
+        ("poke entry 3 major FFffFFffFFffFFff", "ok"),
+        (&format!("poke entry 127 minor {}Af", "00".repeat(43)), "ok"),
+        ("poke entry 3 length 65535", "ok"),
+        ("poke ecb 63 code 9", "ok"),
+        ("poke area 127 address 1", "ok"),
+        (
+            "dump",
+            &format!(
+                "step 0 0\ntask 32 0 0 7 0 0 0 0 0\nentry 3 0 0 ffffffffffffffff 65535 {}
+             entry 127 0 0 0000000000000000 0 {}af\necb 63 0 0 9 0\narea 127 1 0 0 0",
+                "00".repeat(44),
+                "00".repeat(43)
+            ),
+        ),
+        ("dispatch", "100 0"),
+        ("fresh 3 2", "0 0"),
+        ("dispatch", "0 1"),
+    ]);
+}
+
+#[test]
+fn what_cannot_be_held() {
+    expect(&[
+        ("poke step over 2", "! 1"),
+        ("poke task 1 state 3", "! 2"),
+        ("poke task 1 hasecb 2", "! 3"),
+        ("poke entry 0 excl 2", "! 4"),
+        ("poke ecb 0 wait 1", "! 5"),
+        ("poke ecb 0 waiter 1", "! 6"),
+        ("poke ecb 0 complete 2", "! 7"),
+        ("poke step code 65536", "! 8"),
+        ("poke task 1 limit 256", "! 9"),
+        ("poke task 1 ecb 1", "! 10"),
+        ("poke task 1 need 1", "! 11"),
+        ("poke entry 0 length 65536", "! 12"),
+        ("poke area 0 owner 256", "! 13"),
+        ("dump", "step 1 0"),
+    ]);
+}

@@ -18,7 +18,7 @@ pub fn end_of(a: Area) -> u64
     a.start.0 as u64 + a.size as u64
 }
 
-pub fn one_holder(a: Area, b: Area) -> bool
+fn one_holder(a: Area, b: Area) -> bool
     ensures { λ r. ⌜ r ≡ oneHolder a b ⌝ }
 {
     if a.owner.0 != b.owner.0 {
@@ -28,7 +28,7 @@ pub fn one_holder(a: Area, b: Area) -> bool
 }
 
 // No byte in common.
-pub fn bytes_apart(a: Area, b: Area) -> bool
+fn bytes_apart(a: Area, b: Area) -> bool
     ensures { λ r. ⌜ r ≡ bytesApart a b ⌝ }
 {
     if end_of(a) <= start_of(b) {
@@ -52,7 +52,7 @@ fn past_page(a: Area) -> u64
 }
 
 // No page in common.
-pub fn pages_apart(a: Area, b: Area) -> bool
+fn pages_apart(a: Area, b: Area) -> bool
     ensures { λ r. ⌜ r ≡ pagesApart a b ⌝ }
 {
     if past_page(a) <= first_page(b) {

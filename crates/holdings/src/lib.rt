@@ -11,7 +11,7 @@ ghost use Rattle.rules.specs.Ending.{areaStays};
 ghost use Rattle.storage.specs.Stored.{live, stored, Packed};
 
 // Of the step, in subpool 0, or else of a live task.
-pub fn owner_good(f: Family, a: Area) -> bool
+fn owner_good(f: Family, a: Area) -> bool
     ensures { λ r. ⌜ r ≡ areaOwnerGood (f .places) a ⌝ }
 {
     let owner = a.owner;
@@ -38,7 +38,7 @@ pub fn owners_good(s: Storage, f: Family) -> bool
 }
 
 // Of subpool 0, or of a task that is still live.
-pub fn stays(f: Family, a: Area) -> bool
+fn stays(f: Family, a: Area) -> bool
     ensures { λ r. ⌜ r ≡ areaStays (f .places) a ⌝ }
 {
     if a.subpool == 0 {

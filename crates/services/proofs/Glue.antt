@@ -8,6 +8,7 @@ use native.Mathlib.Omega.{arith}
 use Rattle.lists.specs.Pick.{pick, chain-and}
 use Rattle.kinds.specs.Limits.{lowestTask, highestTask}
 use Rattle.kinds.specs.Ranges.{priorityGood}
+use Rattle.kinds.specs.Replies.{faultNumber}
 use Rattle.kinds.specs.Tasks.{isLive, waits}
 use Rattle.kinds.specs.declared.tasks.Task.{Task}
 use Rattle.kinds.specs.declared.ecbs.Ecb.{Ecb}
@@ -20,26 +21,28 @@ use Rattle.kinds.specs.declared.replies.Gate.{Gate}
 use Rattle.kinds.specs.declared.replies.Gate.the-variants.{Open, Shut}
 use Rattle.kinds.specs.declared.replies.Verdict.{Verdict}
 use Rattle.kinds.specs.declared.replies.Verdict.the-variants.{Go, Refuse, Fail}
-use Rattle.rules.specs.Steps.{Step, Outcome, refused, done, keptBy, withTasks, withEcbs, withAreas, overStep}
+use Rattle.rules.specs.Steps.{Step, Outcome, refused, failed, done, keptBy, withTasks, withEcbs, withAreas, overStep}
 use Rattle.rules.specs.Dispatch.{dispatched, dispatchBody}
 use Rattle.rules.specs.Fresh.{freshStep, freshOf}
-use Rattle.rules.specs.Ending.{failing}
+use Rattle.rules.specs.Ending.{ended, failing}
 use Rattle.rules.specs.Family.{place}
 use Rattle.rules.specs.Sound.{soundTasks, soundQueue, soundEcbs, soundAreas, overGood, runningGood, soundStep}
 use Rattle.rules.specs.Admission.{admitted, gateOf, through, settled}
 use Rattle.family.specs.Families.{familyOf}
 use Rattle.events.specs.Blocks.{eventsOf}
-use Rattle.soundness.specs.Rules.{runningRules, overRules}
+use Rattle.soundness.specs.Rules.{runningRules, overRules, soundTables}
 use Rattle.queue.specs.Queues.{live, packedb}
 use Rattle.queue.proofs.Views.{packed-kept as queue-kept}
 use Rattle.storage.specs.Stored.{live as liveAreas, stored as storedAreas, packedb as packedAreas}
 use Rattle.storage.specs.Kept.{packed-kept as areas-kept}
 use Rattle.claims.specs.Claiming.{Admits}
+use Rattle.endings.specs.Wholes.{stepIn, wholeOf, Ends}
+use Rattle.endings.specs.declared.Whole.{Whole}
 use Rattle.laws.specs.Running.{Running, running-parts}
 use Rattle.laws.specs.Chains.{used-pos, used-within}
 use Rattle.laws.specs.Mothers.{fits-length}
 use Rattle.laws.specs.Admitted.{open-running, open-used}
-use Rattle.services.specs.Kept.{Packed, Admitted, stepOf, tablesOf, withFamily, withSignals, withStorage, settledIn, soundb, answered, gated, gateAt}
+use Rattle.services.specs.Kept.{Packed, Admitted, stepOf, tablesOf, wholeIn, tablesIn, withFamily, withSignals, withStorage, settledIn, soundb, answered, gated, gateAt}
 use Rattle.services.specs.declared.Tables.{Tables}
 
 -- SOUND TABLES KEEP THEIR STEP
@@ -139,6 +142,12 @@ module _ (t : Tables) (c : TaskNumber) (a : Admitted t c) where
         omega (arith, used-within (t .family .places) (c .0) u, fits-length (t .family .places) (admitted-running .places)),
       )
 
+  -- as an ending asks it
+  pub caller-ends : (w : Whole) → w ≡ wholeIn t → Ends w c
+  caller-ends w e =
+      subst (λ (x : Whole). Ends x c) (sym e)
+      (record { packed = record { queue = admitted-packed .queue; storage = admitted-packed .storage }; running = admitted-running; gate = a .gate })
+
   -- as ENQ and DEQ ask it
   pub caller-claims : Admits (live (t .queue)) (t .family .places) c
   caller-claims = record {
@@ -160,37 +169,18 @@ settles t c o n s v w p e g a = a ∙ ap (λ (z : Verdict). settledIn z t c n) e
     one (Refuse why) k = refused-kept t why p
     one (Fail what) k = refl
 
-module _ (t : Tables) (c : TaskNumber) (o : Outcome Step) (s : Outcome Tables) (v : Verdict) where
-  pub on-go : v ≡ Go → s ≡ keptBy tablesOf o → s ≡ keptBy tablesOf (settled v (stepOf t) c o)
-  unfolding settled
-  on-go h a = rw h a
-
-  pub on-refuse : (why : Refusal) → v ≡ Refuse why → Packed t → s ≡ refused why t → s ≡ keptBy tablesOf (settled v (stepOf t) c o)
-  unfolding settled
-  on-refuse why h p a = rw h (a ∙ refused-kept t why p)
-
-  pub on-fail : (what : Fault) → v ≡ Fail what → s ≡ keptBy tablesOf (failing what (stepOf t) c) → s ≡ keptBy tablesOf (settled v (stepOf t) c o)
-  unfolding settled
-  on-fail what h a = rw h a
-
 -- THE TESTS OF THE TABLES, AND OF A CALLER
 
-module _ (t : Tables) (p : packedb (t .queue) ≡ true) (q : packedAreas (t .storage) ≡ true) where
-  pub sound-running : t .over ≡ false → runningRules (t .code) (t .family .places) (live (t .queue)) (t .events .ecbs) (liveAreas (t .storage)) ≡ soundb t
-  unfolding soundb soundStep runningGood soundTasks soundQueue soundEcbs soundAreas runningRules pick
-  sound-running o = rw (p, q, o)
+rules-are : (t : Tables) (b : Bool) → t .over ≡ b
+    → pick b (overRules (t .code) (t .family .places) (live (t .queue)) (t .events .ecbs) (liveAreas (t .storage))) (runningRules (t .code) (t .family .places) (live (t .queue)) (t .events .ecbs) (liveAreas (t .storage)))
+    ≡ soundStep (stepOf t)
+unfolding soundStep runningGood overGood soundTasks soundQueue soundEcbs soundAreas runningRules overRules pick
+rules-are t true o = rw o
+rules-are t false o = rw o
 
-  pub sound-over : t .over ≡ true → overRules (t .code) (t .family .places) (live (t .queue)) (t .events .ecbs) (liveAreas (t .storage)) ≡ soundb t
-  unfolding soundb soundStep overGood overRules pick
-  sound-over o = rw (p, q, o)
-
-pub unpacked-queue : (t : Tables) → packedb (t .queue) ≡ false → false ≡ soundb t
-unfolding soundb pick
-unpacked-queue t p = rw p
-
-pub unpacked-areas : (t : Tables) → packedb (t .queue) ≡ true → packedAreas (t .storage) ≡ false → false ≡ soundb t
-unfolding soundb pick
-unpacked-areas t p q = rw (p, q)
+pub sound-is : (t : Tables) → soundTables (t .over) (t .code) (t .family) (t .queue) (t .events) (t .storage) ≡ soundb t
+unfolding soundTables soundb
+sound-is t = ap (λ (b : Bool). pick (packedb (t .queue)) (pick (packedAreas (t .storage)) b false) false) (rules-are t (t .over) refl)
 
 module _ (t : Tables) (k : Step → Gate) where
   pub gate-unsound : soundb t ≡ false → Shut Unsound ≡ gated t k
@@ -237,6 +227,14 @@ put-areas t l p = λ i. record {
   events = t .events;
   storage = storedAreas l;
 }
+
+-- a program error
+pub fails-so : (t : Tables) (c : TaskNumber) (what : Fault) (n : ℕ) (w x : Whole) (r : Tables) → w ≡ wholeIn t → n ≡ faultNumber what → x ≡ wholeOf (ended (stepIn w) (c .0) n) → r ≡ tablesIn x
+    → failed what r ≡ keptBy tablesOf (failing what (stepOf t) c)
+unfolding failing
+fails-so t c what n w x r a b d e =
+    ap (failed what)
+    (e ∙ ap tablesIn (d ∙ ap (λ (z : Whole). wholeOf (ended (stepIn z) (c .0) n)) a ∙ ap (λ (m : ℕ). wholeOf (ended (stepOf t) (c .0) m)) b))
 
 -- DISPATCH changes nothing
 pub dispatches : (t : Tables) (n : ℕ) (s : Outcome Tables) → Packed t → n ≡ dispatched (t .family .places) → s ≡ done n t → s ≡ keptBy tablesOf (dispatchBody (stepOf t))

@@ -1,6 +1,4 @@
 pub mod Glue
-pub mod Endings
-pub mod Abending
 pub mod Leaves
 pub mod Coded
 pub mod Serving

@@ -24,7 +24,11 @@ use Rattle.kinds.specs.declared.replies.Verdict.the-variants.{Go}
 use Rattle.rules.specs.Names.{Names, namesOf}
 use Rattle.rules.specs.Control.{Entry}
 use Rattle.rules.specs.Codes.{allZero, coded}
-use Rattle.rules.specs.Steps.{Step, Outcome, done, four, keptBy, withEcbs}
+use Rattle.rules.specs.Steps.{Step, Outcome, done, four, keptBy, withEcbs, overStep}
+use Rattle.rules.specs.Ending.{detached, ended}
+use Rattle.rules.specs.Abend.{abendVerdict, abendDone}
+use Rattle.rules.specs.Detach.{detachVerdict, detachDone}
+use Rattle.rules.specs.End.{endVerdict, endDone}
 use Rattle.rules.specs.Family.{place, withPlace}
 use Rattle.rules.specs.Waits.{waitsBy, requeued}
 use Rattle.rules.specs.Events.{Ecbs, signalled}
@@ -53,7 +57,10 @@ use Rattle.rooms.specs.declared.Stored.{Stored}
 use Rattle.claims.specs.Claiming.{requeuedTo, replyTo, enqChanged, enqBy, deqBy}
 use Rattle.claims.specs.declared.Claims.{Claims}
 use Rattle.claims.specs.declared.Claimed.{Claimed}
-use Rattle.services.specs.Kept.{Packed, stepOf, tablesOf, withFamily, withQueue, withSignals, withStorage, replied, settledIn}
+use Rattle.endings.specs.Wholes.{stepIn, endedBy}
+use Rattle.endings.specs.declared.Whole.{Whole}
+use Rattle.endings.specs.declared.services.Settled.{Settled}
+use Rattle.services.specs.Kept.{Packed, stepOf, tablesOf, wholeIn, tablesIn, withFamily, withQueue, withSignals, withStorage, replied, settledIn}
 use Rattle.services.specs.declared.Tables.{Tables}
 use Rattle.services.proofs.Glue.{packed-tables, put-family, put-signals, put-areas, settles}
 
@@ -209,3 +216,38 @@ module _ (t : Tables) (c : TaskNumber) (p : Packed t) (k : Claimed) (n s : Outco
       ∙ ap (λ (z : Claimed). replied (z .reply) (withQueue t (z .tables .family) (z .tables .queue))) (e ∙ ap (λ (u : Verdict). deqBy u ret (t .queue) (t .family) (c .0) l) h)
       ∙ deq-leaves (allZero (deqCodes ret (live (t .queue)) (c .0) l)) (requeued (stepOf t) (released (c .0) (namesOf l) (live (t .queue)))) _ (requeued-leaves _))
       d
+
+-- DETACH, END AND ABEND
+
+module _ (t : Tables) (c : TaskNumber) (p : Packed t) (w : Whole) (h : w ≡ wholeIn t) (k : Settled) (r : Tables) (n s : Outcome Tables) (a : r ≡ tablesIn (k .tables)) (b : n ≡ done 0 r) (d : s ≡ settledIn (k .verdict) t c n) where
+  ends-settle : (o : Outcome Step) (v : Verdict) (u : Step) → k ≡ endedBy v u w → done 0 u ≡ o → s ≡ keptBy tablesOf (settled v (stepOf t) c o)
+  ends-settle o v u e q =
+      settles t c o n s v (k .verdict) p (ap (λ (z : Settled). z .verdict) e)
+      (λ (g : v ≡ Go).
+      b ∙ ap (done 0) (a ∙ ap (λ (z : Settled). tablesIn (z .tables)) (e ∙ ap (λ (x : Verdict). endedBy x u w) g)) ∙ ap (keptBy tablesOf) q)
+      d
+
+  pub detach-settles : (task : TaskNumber) → k ≡ endedBy (detachVerdict (w .family .places) c task) (detached (stepIn w) (task .0)) w
+      → s ≡ keptBy tablesOf (settled (detachVerdict (t .family .places) c task) (stepOf t) c (detachDone (stepOf t) task))
+  unfolding detachDone
+  detach-settles task e =
+      ends-settle _ (detachVerdict (t .family .places) c task) (detached (stepOf t) (task .0))
+      (e ∙ ap (λ (z : Whole). endedBy (detachVerdict (z .family .places) c task) (detached (stepIn z) (task .0)) w) h) refl
+
+  pub end-settles : (code : ℕ) → k ≡ endedBy (endVerdict (w .family .places) c code) (ended (stepIn w) (c .0) code) w
+      → s ≡ keptBy tablesOf (settled (endVerdict (t .family .places) c code) (stepOf t) c (endDone (stepOf t) c code))
+  unfolding endDone
+  end-settles code e =
+      ends-settle _ (endVerdict (t .family .places) c code) (ended (stepOf t) (c .0) code)
+      (e ∙ ap (λ (z : Whole). endedBy (endVerdict (z .family .places) c code) (ended (stepIn z) (c .0) code) w) h) refl
+
+  pub abend-settles : (code : ℕ) (step : Bool) → k ≡ endedBy (abendVerdict code) (pick step (overStep code) (ended (stepIn w) (c .0) code)) w
+      → s ≡ keptBy tablesOf (settled (abendVerdict code) (stepOf t) c (abendDone (stepOf t) c code step))
+  unfolding abendDone pick
+  abend-settles code step e =
+      ends-settle _ (abendVerdict code) (pick step (overStep code) (ended (stepOf t) (c .0) code))
+      (e ∙ ap (λ (z : Whole). endedBy (abendVerdict code) (pick step (overStep code) (ended (stepIn z) (c .0) code)) w) h) (one step)
+    where
+      one : (b : Bool) → done 0 (pick b (overStep code) (ended (stepOf t) (c .0) code)) ≡ pick b (done 0 (overStep code)) (done 0 (ended (stepOf t) (c .0) code))
+      one true = refl
+      one false = refl

@@ -14,7 +14,6 @@ use Rattle.kinds.specs.declared.replies.Verdict.the-variants.{Go, Refuse, Fail}
 use mathlib.Core.List.{List}
 use Rattle.rules.specs.Steps.{Step, Outcome, Served, refused, keptBy, untouched}
 use Rattle.rules.specs.Ending.{failing}
-use Rattle.rules.specs.Events.{signalled}
 use Rattle.rules.specs.Sound.{soundStep}
 use Rattle.rules.specs.Admission.{gateOf, openGate, settled, codesThrough}
 use Rattle.family.specs.Families.{familyOf}
@@ -25,6 +24,7 @@ use Rattle.queue.specs.Queues.{live, stored, packedb, Packed as PackedQueue}
 use Rattle.events.specs.Blocks.{eventsOf}
 use Rattle.storage.specs.Stored.{live as liveAreas, stored as storedAreas, packedb as packedAreas, Packed as PackedAreas}
 use Rattle.storage.specs.declared.Storage.{Storage}
+use Rattle.endings.specs.declared.Whole.{Whole}
 use Rattle.services.specs.declared.Tables.{Tables}
 use Rattle.services.specs.declared.Answer.{Answer}
 
@@ -48,6 +48,13 @@ tablesOf s = record {
   storage = storedAreas (s .areas);
 }
 
+-- all of the tables as an ending takes them, and as it leaves them
+abbrev pub wholeIn : Tables → Whole
+wholeIn t = record { over = t .over; code = t .code; family = t .family; queue = t .queue; events = t .events; storage = t .storage }
+
+abbrev pub tablesIn : Whole → Tables
+tablesIn w = record { over = w .over; code = w .code; family = w .family; queue = w .queue; events = w .events; storage = w .storage }
+
 -- the tables keep their step: nothing else stands in them
 pub record Packed (t : Tables) : Type 0 where
   pub queue : PackedQueue (t .queue)
@@ -68,11 +75,6 @@ withSignals t e f = record { over = t .over; code = t .code; family = f; queue =
 -- with other areas
 abbrev pub withStorage : Tables → Storage → Tables
 withStorage t s = record { over = t .over; code = t .code; family = t .family; queue = t .queue; events = t .events; storage = s }
-
--- with ECB e posted
-abbrev pub postedIn : Tables → ℕ → ℕ → Tables
-postedIn t e code =
-    withSignals t (eventsOf (signalled (t .family .places) (t .events .ecbs) e code .ecbs)) (familyOf (signalled (t .family .places) (t .events .ecbs) e code .tasks))
 
 -- what is answered, by the paper's number and value, and the tables
 abbrev pub replied : {T : Type 0} → Reply → T → Outcome T

@@ -3,36 +3,25 @@ use crate::Answer;
 use crate::Tables;
 use kinds::Gate;
 use kinds::TaskNumber;
-use kinds::Verdict;
 ghost use mathlib.Core.Path.{_≡_};
-ghost use Rattle.rules.specs.Steps.{keptBy};
-ghost use Rattle.rules.specs.End.{endBody, endOf};
-ghost use Rattle.services.specs.Kept.{Admitted, stepOf, tablesOf, said, answered};
+ghost use Rattle.rules.specs.End.{endOf};
+ghost use Rattle.services.specs.Kept.{said, answered};
 
 impl Tables {
-    // END of an admitted caller.
-    fn end_body(self, caller: TaskNumber, code: u16) -> Answer
-        requires { ⌜ Admitted self caller ⌝ }
-        ensures { λ r. ⌜ said r ≡ keptBy tablesOf (endBody (stepOf self) caller code) ⌝ }
-    {
-        let f = self.family;
-        match subtasks::verdicts::end_verdict(f, caller, code) {
-            Verdict::Go => {
-                let t = self.ended(caller, code);
-                t.done(0)
-            }
-            Verdict::Refuse(why) => self.refused(why),
-            Verdict::Fail(what) => self.failed(caller, what),
-        }
-    }
-
     // END: the caller, which has no subtasks, ends.
     pub fn end(self, caller: TaskNumber, code: u16) -> Answer
         ensures { λ r. ⌜ said r ≡ answered self (λ s. endOf s caller code) ⌝ }
     {
         match self.gate(caller) {
             Gate::Shut(why) => self.refused(why),
-            Gate::Open => self.end_body(caller, code),
+            Gate::Open => {
+                let w = self.whole();
+                let k = endings::services::ended_by_end(w, caller, code);
+                let verdict = k.verdict;
+                let left = k.tables;
+                let next = Tables::kept_in(left).done(0);
+                self.settled(caller, verdict, next)
+            }
         }
     }
 }

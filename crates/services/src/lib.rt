@@ -15,32 +15,23 @@ pub mod serve;
 pub mod wait;
 
 use claims::Claims;
+use endings::Whole;
 use events::Events;
 use family::Family;
-use kinds::Condition;
-use kinds::EcbNumber;
 use kinds::Fault;
 use kinds::Gate;
-use kinds::MaybeEcb;
 use kinds::Refusal;
 use kinds::Reply;
-use kinds::Task;
 use kinds::TaskNumber;
 use kinds::Verdict;
 use queue::Queue;
 use signals::Signals;
 use storage::Storage;
 ghost use mathlib.Core.Path.{_≡_};
-ghost use mathlib.Core.Bool.{false};
-ghost use Prim.Native.Nat.{_≤_};
-ghost use Rattle.kinds.specs.Limits.{highestEcb};
-ghost use Rattle.kinds.specs.Tasks.{isLive, withCondition};
-ghost use Rattle.kinds.specs.declared.tasks.Condition.the-variants.{Ended};
 ghost use Rattle.rules.specs.Steps.{refused as refusedOf, done as doneOf, keptBy, overStep};
-ghost use Rattle.rules.specs.Ending.{endTasks, leftBy, ended as endedOf, failing};
+ghost use Rattle.rules.specs.Ending.{failing};
 ghost use Rattle.rules.specs.Admission.{admitted};
-ghost use Rattle.laws.specs.Running.{Running};
-ghost use Rattle.services.specs.Kept.{Packed, Admitted, stepOf, tablesOf, withFamily, withQueue, withSignals, withStorage, postedIn, said, replied, settledIn, soundb, gateAt, openGateAt};
+ghost use Rattle.services.specs.Kept.{Admitted, stepOf, tablesOf, wholeIn, tablesIn, withFamily, withQueue, withSignals, withStorage, said, replied, settledIn, soundb, gateAt, openGateAt};
 
 pub struct Tables {
     pub over: bool,
@@ -77,20 +68,11 @@ impl Tables {
     pub fn sound(self) -> bool
         ensures { λ r. ⌜ r ≡ soundb self ⌝ }
     {
-        let q = self.queue;
-        let s = self.storage;
-        if !queue::packed(q) {
-            return false;
-        }
-        if !storage::packed(s) {
-            return false;
-        }
         let f = self.family;
+        let q = self.queue;
         let e = self.events;
-        if self.over {
-            return soundness::over_good(self.code, f, q, e, s);
-        }
-        soundness::running_good(self.code, f, q, e, s)
+        let s = self.storage;
+        soundness::sound(self.over, self.code, f, q, e, s)
     }
 
     // The gate of a caller, with 100 before it.
@@ -125,22 +107,48 @@ impl Tables {
         }
     }
 
-    // The tables of a step that is over.
-    fn over_with(code: u16) -> Tables
-        ensures { λ r. ⌜ r ≡ tablesOf (overStep code) ⌝ }
+    // All of the tables, for an ending.
+    fn whole(self) -> Whole
+        ensures { λ r. ⌜ r ≡ wholeIn self ⌝ }
     {
-        let f = family::empty();
-        let q = queue::empty();
-        let e = events::empty();
-        let s = storage::empty();
-        Tables {
-            over: true,
-            code,
+        let f = self.family;
+        let q = self.queue;
+        let e = self.events;
+        let s = self.storage;
+        Whole {
+            over: self.over,
+            code: self.code,
             family: f,
             queue: q,
             events: e,
             storage: s,
         }
+    }
+
+    // The tables as an ending leaves them.
+    fn kept_in(w: Whole) -> Tables
+        ensures { λ r. ⌜ r ≡ tablesIn w ⌝ }
+    {
+        let f = w.family;
+        let q = w.queue;
+        let e = w.events;
+        let s = w.storage;
+        Tables {
+            over: w.over,
+            code: w.code,
+            family: f,
+            queue: q,
+            events: e,
+            storage: s,
+        }
+    }
+
+    // The tables of a step that is over.
+    fn over_with(code: u16) -> Tables
+        ensures { λ r. ⌜ r ≡ tablesOf (overStep code) ⌝ }
+    {
+        let w = endings::over_with(code);
+        Tables::kept_in(w)
     }
 
     // The ECBs and the tasks are as a service leaves them.
@@ -206,80 +214,14 @@ impl Tables {
         }
     }
 
-    // The one ending. Task n and all below it end: n's place becomes `last`, and what belonged to those who are live no more goes with them.
-    fn without(self, n: TaskNumber, last: Task) -> Tables
-        requires { ⌜ Packed self × (Running (stepOf self) × (isLive (last .condition) ≡ false)) ⌝ }
-        ensures { λ r. ⌜ r ≡ tablesOf (leftBy (stepOf self) (endTasks (self .family .places) (n .0) last)) ⌝ }
-    {
-        let all = self.family;
-        let q = self.queue;
-        let e = self.events;
-        let s = self.storage;
-        let left = subtasks::ending::end_tasks(all, n, last);
-        let entries = locks::ending::sweep(q, left);
-        let tasks = locks::waking::wake(entries, left);
-        let blocks = signals::ending::sweep(e, left);
-        let areas = holdings::sweep(s, left);
-        Tables {
-            over: self.over,
-            code: self.code,
-            family: tasks,
-            queue: entries,
-            events: blocks,
-            storage: areas,
-        }
-    }
-
-    // With an ECB posted.
-    fn posted(self, ecb: EcbNumber, code: u16) -> Tables
-        requires { ⌜ ecb .0 ≤ highestEcb ⌝ }
-        ensures { λ r. ⌜ r ≡ postedIn self (ecb .0) code ⌝ }
-    {
-        let e = self.events;
-        let f = self.family;
-        let l = signals::post(e, f, ecb, code as u32);
-        let d = l.events;
-        let g = l.family;
-        let mut next = self;
-        next.events = d;
-        next.family = g;
-        next
-    }
-
-    // Task c, whose place is x, ends: the place is kept as ended, and the ECB that it was attached with is posted.
-    fn kept_as_ended(self, c: TaskNumber, x: Task, ecb: EcbNumber, code: u16) -> Tables
-        requires { ⌜ Packed self × (Running (stepOf self) × (ecb .0 ≤ highestEcb)) ⌝ }
-        ensures { λ r. ⌜ r ≡ postedIn (tablesOf (leftBy (stepOf self) (endTasks (self .family .places) (c .0) (withCondition x Ended)))) (ecb .0) code ⌝ }
-    {
-        let last = x.with_condition(Condition::Ended);
-        let t = self.without(c, last);
-        t.posted(ecb, code)
-    }
-
-    // Task c ends with this code and all below it: its ECB, if it was attached with one, is posted, and no other.
-    fn ended(self, c: TaskNumber, code: u16) -> Tables
-        requires { ⌜ Admitted self c ⌝ }
-        ensures { λ r. ⌜ r ≡ tablesOf (endedOf (stepOf self) (c .0) code) ⌝ }
-    {
-        if c.0 == TaskNumber::LOWEST {
-            return Tables::over_with(code);
-        }
-        let f = self.family;
-        let x = family::at(f, c);
-        let free = Task::free();
-        let own = x.ecb;
-        match own {
-            MaybeEcb::NoEcb => self.without(c, free),
-            MaybeEcb::Named(ecb) => self.kept_as_ended(c, x, ecb, code),
-        }
-    }
-
     // A program error ends the caller with its number, and does nothing else.
     fn failed(self, caller: TaskNumber, what: Fault) -> Answer
         requires { ⌜ Admitted self caller ⌝ }
         ensures { λ r. ⌜ said r ≡ keptBy tablesOf (failing what (stepOf self) caller) ⌝ }
     {
-        let t = self.ended(caller, what.number());
+        let w = self.whole();
+        let left = endings::ended(w, caller, what.number());
+        let t = Tables::kept_in(left);
         Answer {
             tables: t,
             reply: Reply::Failed(what),

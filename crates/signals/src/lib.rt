@@ -65,7 +65,7 @@ pub fn waiters_good(e: Events, f: Family) -> bool
 }
 
 // A task that waits needs at least 1 post, and at most as many as it has ECBs.
-pub fn need_good(k: Condition, has: u8) -> bool
+fn need_good(k: Condition, has: u8) -> bool
     ensures { λ r. ⌜ r ≡ needGood k has ⌝ }
 {
     match k {
@@ -94,7 +94,7 @@ pub fn needs_good(e: Events, f: Family) -> bool
     true
 }
 
-pub fn one_post_fewer(k: Condition) -> Condition
+fn one_post_fewer(k: Condition) -> Condition
     ensures { λ r. ⌜ r ≡ onePostFewer k ⌝ }
 {
     match k {

@@ -1,9 +1,10 @@
 -- The rules of sound tables by the table that they speak of, over the lists that the tables stand for. Assumes nothing.
 use Prim.Native.Nat.{ℕ}
-use mathlib.Core.Bool.{Bool, _&&_}
+use mathlib.Core.Bool.{Bool, false, _&&_}
 use mathlib.Core.List.{List}
 use lib.Dec.{eqb}
 use Rattle.lists.specs.Lists.{every, none}
+use Rattle.lists.specs.Pick.{pick}
 use Rattle.kinds.specs.Ranges.{endCodeGood}
 use Rattle.kinds.specs.declared.tasks.Task.{Task}
 use Rattle.kinds.specs.declared.ecbs.Ecb.{Ecb}
@@ -13,6 +14,12 @@ use Rattle.rules.specs.SoundTasks.{tasksFit, jobStepGood, mothersGood, prioriti
 use Rattle.rules.specs.SoundQueue.{queueFits, entriesLive, entriesOnce, entryNamesGood, waitsGood}
 use Rattle.rules.specs.SoundEcbs.{ecbsFit, waitersGood, needsGood, ecbWordsGood, zeroEcb}
 use Rattle.rules.specs.SoundAreas.{areasFit, areaShapesGood, areaOwnersGood, areasRise, areasApart}
+use Rattle.family.specs.declared.Family.{Family}
+use Rattle.events.specs.declared.Events.{Events}
+use Rattle.queue.specs.Queues.{live, packedb}
+use Rattle.queue.specs.declared.Queue.{Queue}
+use Rattle.storage.specs.Stored.{live as liveAreas, packedb as packedAreas}
+use Rattle.storage.specs.declared.Storage.{Storage}
 
 abbrev pub tasksGood : List Task → Bool
 tasksGood ts = jobStepGood ts && (mothersGood ts && (prioritiesGood ts && (taskEcbsGood ts && (endedTasksGood ts && freePlacesGood ts))))
@@ -37,3 +44,12 @@ runningRules code ts q es l = sizesGood ts es && (eqb code 0 && (tasksGood ts &&
 -- of a step that is over
 unfoldable pub overRules : ℕ → List Task → List Entry → List Ecb → List Area → Bool
 overRules code ts q es l = sizesGood ts es && (endCodeGood code && (every zeroTask ts && (none q && (every zeroEcb es && none l))))
+
+-- of any tables: they keep a step, and it breaks no rule
+unfoldable pub soundTables : Bool → ℕ → Family → Queue → Events → Storage → Bool
+soundTables over code f q e s =
+    pick (packedb q)
+    (pick (packedAreas s)
+    (pick over (overRules code (f .places) (live q) (e .ecbs) (liveAreas s)) (runningRules code (f .places) (live q) (e .ecbs) (liveAreas s)))
+    false)
+    false

@@ -10,10 +10,10 @@ ghost use Rattle.lists.specs.Lists.{none};
 ghost use Rattle.kinds.specs.Limits.{mostEntries, mostAreas};
 ghost use Rattle.queue.specs.Queues.{live};
 ghost use Rattle.storage.specs.Stored.{live as liveAreas};
-ghost use Rattle.soundness.specs.Rules.{tasksGood, queueGood, eventsGood, areasGood, sizesGood, runningRules, overRules};
+ghost use Rattle.soundness.specs.Rules.{tasksGood, queueGood, eventsGood, areasGood, sizesGood, runningRules, overRules, soundTables};
 
 // The rules on the task table alone.
-pub fn tasks_good(f: Family) -> bool
+fn tasks_good(f: Family) -> bool
     ensures { λ r. ⌜ r ≡ tasksGood (f .places) ⌝ }
 {
     let a = places::job_step_good(f);
@@ -26,7 +26,7 @@ pub fn tasks_good(f: Family) -> bool
 }
 
 // The rules on entries and resource waits.
-pub fn queue_good(q: Queue, f: Family) -> bool
+fn queue_good(q: Queue, f: Family) -> bool
     requires { ⌜ q .count ≤ mostEntries ⌝ }
     ensures { λ r. ⌜ r ≡ queueGood (f .places) (live q) ⌝ }
 {
@@ -39,7 +39,7 @@ pub fn queue_good(q: Queue, f: Family) -> bool
 }
 
 // The rules on ECBs and ECB waits.
-pub fn ecbs_good(e: Events, f: Family) -> bool
+fn ecbs_good(e: Events, f: Family) -> bool
     ensures { λ r. ⌜ r ≡ eventsGood (f .places) (e .ecbs) ⌝ }
 {
     let a = signals::waiters_good(e, f);
@@ -49,7 +49,7 @@ pub fn ecbs_good(e: Events, f: Family) -> bool
 }
 
 // The rules on areas.
-pub fn areas_good(s: Storage, f: Family) -> bool
+fn areas_good(s: Storage, f: Family) -> bool
     requires { ⌜ s .count ≤ mostAreas ⌝ }
     ensures { λ r. ⌜ r ≡ areasGood (f .places) (liveAreas s) ⌝ }
 {
@@ -85,7 +85,7 @@ fn no_area(s: Storage) -> bool
 }
 
 // The rules on a step that runs.
-pub fn running_good(code: u16, f: Family, q: Queue, e: Events, s: Storage) -> bool
+fn running_good(code: u16, f: Family, q: Queue, e: Events, s: Storage) -> bool
     requires { ⌜ (q .count ≤ mostEntries) × (s .count ≤ mostAreas) ⌝ }
     ensures { λ r. ⌜ r ≡ runningRules code (f .places) (live q) (e .ecbs) (liveAreas s) ⌝ }
 {
@@ -98,7 +98,7 @@ pub fn running_good(code: u16, f: Family, q: Queue, e: Events, s: Storage) -> bo
 }
 
 // "A step that is over has empty tables."
-pub fn over_good(code: u16, f: Family, q: Queue, e: Events, s: Storage) -> bool
+fn over_good(code: u16, f: Family, q: Queue, e: Events, s: Storage) -> bool
     requires { ⌜ (q .count ≤ mostEntries) × (s .count ≤ mostAreas) ⌝ }
     ensures { λ r. ⌜ r ≡ overRules code (f .places) (live q) (e .ecbs) (liveAreas s) ⌝ }
 {
@@ -109,4 +109,20 @@ pub fn over_good(code: u16, f: Family, q: Queue, e: Events, s: Storage) -> bool
     let h = events::all_zero(e);
     let i = no_area(s);
     a & (b & (d & (g & (h & i))))
+}
+
+// No rule of sound tables is broken. The packed tests come first: the rules speak of the lists that packed tables stand for.
+pub fn sound(over: bool, code: u16, f: Family, q: Queue, e: Events, s: Storage) -> bool
+    ensures { λ r. ⌜ r ≡ soundTables over code f q e s ⌝ }
+{
+    if !queue::packed(q) {
+        return false;
+    }
+    if !storage::packed(s) {
+        return false;
+    }
+    if over {
+        return over_good(code, f, q, e, s);
+    }
+    running_good(code, f, q, e, s)
 }

@@ -1,22 +1,22 @@
-use mathlib.Core.Path.{_≡_, sym, ap, _∙_}
-use Rattle.kinds.specs.declared.replies.Fault.{Fault}
-use Rattle.kinds.specs.Replies.{faultNumber}
-use Rattle.rules.specs.Steps.{failed as failedOf}
-use Rattle.rules.specs.Ending.{ended, failing}
-use Rattle.services.specs.Kept.{stepOf, tablesOf}
+use Rattle.services.proofs.Glue.{caller-ends, fails-so}
 use borrow.Author.Needs.{needs}
 use Rattle.services.proofs.Tables.failed.Statement.{statement}
 use Rattle.services.proofs.Tables.failed.Tie as tie
+
+whole-requires : tie.Need-whole-requires
+whole-requires c κs = search needs
 
 number-requires : tie.Need-number-requires
 number-requires c κs = search needs
 
 ended-requires : tie.Need-ended-requires
-ended-requires c κs = (c .before .pre)
+ended-requires c κs = caller-ends ((c .before .before .args) .self) ((c .before .before .args) .caller) (c .before .before .pre) _ ((c .before .whole) .ensures)
+
+kept-in-requires : tie.Need-kept-in-requires
+kept-in-requires c κs = search needs
 
 returns : tie.Need-returns
-unfolding failing
-returns c = ap (failedOf ((c .before .before .args) .what)) ((c .ended) .ensures ∙ ap (λ n. tablesOf (ended (stepOf ((c .before .before .args) .self)) ((c .before .before .args) .caller .0) n)) ((c .before .number) .ensures))
+returns c = fails-so ((c .before .before .before .before .args) .self) ((c .before .before .before .before .args) .caller) ((c .before .before .before .before .args) .what) _ _ _ _ ((c .before .before .before .whole) .ensures) ((c .before .before .number) .ensures) ((c .before .ended) .ensures) ((c .kept-in) .ensures)
 
 pub failed-spec : {M : Type 1} → statement M
-failed-spec = tie.close (tie.spec number-requires ended-requires returns)
+failed-spec = tie.close (tie.spec whole-requires number-requires ended-requires kept-in-requires returns)

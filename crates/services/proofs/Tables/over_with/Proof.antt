@@ -1,24 +1,17 @@
-use Rattle.rules.specs.Steps.{overStep}
+use mathlib.Core.Path.{ap, _∙_}
+use Rattle.services.specs.Kept.{tablesIn}
 use borrow.Author.Needs.{needs}
 use Rattle.services.proofs.Tables.over_with.Statement.{statement}
 use Rattle.services.proofs.Tables.over_with.Tie as tie
 
-empty-requires : tie.Need-empty-requires
-empty-requires c κs = search needs
+over-with-requires : tie.Need-over-with-requires
+over-with-requires c κs = search needs
 
-empty-requires-2 : tie.Need-empty-requires-2
-empty-requires-2 c κs = search needs
-
-empty-requires-3 : tie.Need-empty-requires-3
-empty-requires-3 c κs = search needs
-
-empty-requires-4 : tie.Need-empty-requires-4
-empty-requires-4 c κs = search needs
+kept-in-requires : tie.Need-kept-in-requires
+kept-in-requires c κs = search needs
 
 returns : tie.Need-returns
-unfolding overStep
-returns c = rw ((c .before .before .before .empty) .ensures, (c .before .before .empty2) .ensures, (c .before .empty3) .ensures, (c .empty4) .ensures)
+returns c = (c .kept-in) .ensures ∙ ap tablesIn ((c .before .over-with) .ensures)
 
 pub over-with-spec : {M : Type 1} → statement M
-over-with-spec =
-    tie.close (tie.spec empty-requires empty-requires-2 empty-requires-3 empty-requires-4 returns)
+over-with-spec = tie.close (tie.spec over-with-requires kept-in-requires returns)

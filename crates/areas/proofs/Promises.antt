@@ -2,24 +2,12 @@
 use mathlib.Core.Path.{sym, _∙_}
 use Rattle.lists.specs.Promise.{Once}
 use Rattle.areas.proofs.end_of.Reads as end-of
-use Rattle.areas.proofs.one_holder.Reads as one-holder
-use Rattle.areas.proofs.bytes_apart.Reads as bytes-apart
-use Rattle.areas.proofs.pages_apart.Reads as pages-apart
 use Rattle.areas.proofs.apart.Reads as apart
 use Rattle.areas.proofs.same_area.Reads as same-area
 use Rattle.areas.proofs.shape_good.Reads as shape-good
 
 pub end-of-once : Once end-of.Post
 end-of-once k a x y e d p q = p ∙ sym q
-
-pub one-holder-once : Once one-holder.Post
-one-holder-once k a x y e d p q = p ∙ sym q
-
-pub bytes-apart-once : Once bytes-apart.Post
-bytes-apart-once k a x y e d p q = p ∙ sym q
-
-pub pages-apart-once : Once pages-apart.Post
-pages-apart-once k a x y e d p q = p ∙ sym q
 
 pub apart-once : Once apart.Post
 apart-once k a x y e d p q = p ∙ sym q

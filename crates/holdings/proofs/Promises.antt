@@ -1,19 +1,11 @@
 -- No second result fits the contract of a public function, whoever wrote it. Assumes nothing.
 use mathlib.Core.Path.{sym, _∙_}
 use Rattle.lists.specs.Promise.{Once}
-use Rattle.holdings.proofs.owner_good.Reads as owner-good
 use Rattle.holdings.proofs.owners_good.Reads as owners-good
-use Rattle.holdings.proofs.stays.Reads as stays
 use Rattle.holdings.proofs.sweep.Reads as sweep
-
-pub owner-good-once : Once owner-good.Post
-owner-good-once k a x y e d p q = p ∙ sym q
 
 pub owners-good-once : Once owners-good.Post
 owners-good-once k a x y e d p q = p ∙ sym q
-
-pub stays-once : Once stays.Post
-stays-once k a x y e d p q = p ∙ sym q
 
 pub sweep-once : Once sweep.Post
 sweep-once k a x y e d p q = p ∙ sym q

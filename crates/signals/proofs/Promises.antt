@@ -4,9 +4,7 @@ use Rattle.lists.specs.Promise.{Once}
 use Rattle.signals.proofs.clears.cleared.Reads as cleared
 use Rattle.signals.proofs.ending.sweep.Reads as sweep
 use Rattle.signals.proofs.waiters_good.Reads as waiters-good
-use Rattle.signals.proofs.need_good.Reads as need-good
 use Rattle.signals.proofs.needs_good.Reads as needs-good
-use Rattle.signals.proofs.one_post_fewer.Reads as one-post-fewer
 use Rattle.signals.proofs.post.Reads as post
 use Rattle.signals.proofs.posts.posted.Reads as posted
 use Rattle.signals.proofs.waits.waited.Reads as waited
@@ -20,14 +18,8 @@ sweep-once k a x y e d p q = p ∙ sym q
 pub waiters-good-once : Once waiters-good.Post
 waiters-good-once k a x y e d p q = p ∙ sym q
 
-pub need-good-once : Once need-good.Post
-need-good-once k a x y e d p q = p ∙ sym q
-
 pub needs-good-once : Once needs-good.Post
 needs-good-once k a x y e d p q = p ∙ sym q
-
-pub one-post-fewer-once : Once one-post-fewer.Post
-one-post-fewer-once k a x y e d p q = p ∙ sym q
 
 pub post-once : Once post.Post
 post-once k a x y e d p q = p ∙ sym q

@@ -1,5 +1,4 @@
 // The event control blocks: ECB n stands at place n.
-pub mod list;
 
 use kinds::Ecb;
 use kinds::EcbNumber;

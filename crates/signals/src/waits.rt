@@ -22,7 +22,7 @@ fn waiting(e: Events, f: Family, caller: TaskNumber, ecbs: EcbList, count: u32) 
     requires { ⌜ ((lowestTask ≤ caller .0) × (caller .0 ≤ highestTask)) × (waitVerdict (e .ecbs) (ecbsIn ecbs) count ≡ Go) ⌝ }
     ensures { λ r. ⌜ r ≡ signalsOf (waitedIn (f .places) (e .ecbs) (caller .0) (ecbsIn ecbs) count) ⌝ }
 {
-    let complete = events::list::complete_of(e, ecbs);
+    let complete = waits::complete_of(e, ecbs);
     if count <= complete {
         return Signals {
             events: e,
@@ -30,7 +30,7 @@ fn waiting(e: Events, f: Family, caller: TaskNumber, ecbs: EcbList, count: u32) 
         };
     }
     let posts = (count - complete) as u8;
-    let d = events::list::wait_set(e, caller, ecbs);
+    let d = waits::wait_set(e, caller, ecbs);
     let x = family::at(f, caller);
     let y = x.with_condition(Condition::EcbWait(posts));
     let g = family::with_place(f, caller, y);
@@ -45,7 +45,7 @@ pub fn waited(e: Events, f: Family, caller: TaskNumber, ecbs: EcbList, count: u3
     requires { ⌜ (lowestTask ≤ caller .0) × (caller .0 ≤ highestTask) ⌝ }
     ensures { λ r. ⌜ r ≡ signalledBy (waitVerdict (e .ecbs) (ecbsIn ecbs) count) (waitedIn (f .places) (e .ecbs) (caller .0) (ecbsIn ecbs) count) e f ⌝ }
 {
-    match events::list::wait_verdict(e, ecbs, count) {
+    match waits::wait_verdict(e, ecbs, count) {
         Verdict::Go => {
             let l = waiting(e, f, caller, ecbs, count);
             Signalled {

@@ -1,3 +1,0 @@
-pub mod Listed
-pub mod Waiting
-pub mod Promises

@@ -11,9 +11,6 @@ use Rattle.events.proofs.with_ecb.Reads as with-ecb
 use Rattle.events.proofs.completed.Reads as completed
 use Rattle.events.proofs.unwaited_all.Reads as unwaited-all
 use Rattle.events.proofs.waited_on.Reads as waited-on
-use Rattle.events.proofs.list.complete_of.Reads as complete-of
-use Rattle.events.proofs.list.wait_verdict.Reads as wait-verdict
-use Rattle.events.proofs.list.wait_set.Reads as wait-set
 
 pub empty-once : Once empty.Post
 empty-once k a x y e d p q = p ∙ sym q
@@ -44,12 +41,3 @@ unwaited-all-once k a x y e d p q = p ∙ sym q
 
 pub waited-on-once : Once waited-on.Post
 waited-on-once k a x y e d p q = p ∙ sym q
-
-pub complete-of-once : Once complete-of.Post
-complete-of-once k a x y e d p q = p ∙ sym q
-
-pub wait-verdict-once : Once wait-verdict.Post
-wait-verdict-once k a x y e d p q = p ∙ sym q
-
-pub wait-set-once : Once wait-set.Post
-wait-set-once k a x y e d p q = p ∙ sym q

@@ -32,7 +32,7 @@ pub write-once : OnceWith write.Post (λ k e. now (e .1 .1 .0))
 write-once k a x y e d p q = (refl, p ∙ sym q)
 
 pub enq-verdict-once : Once enq-verdict.Post
-enq-verdict-once k a x y e d p q = p (replicate _ 0) (length-replicate {A = ℕ} _ 0) ∙ sym (q (replicate _ 0) (length-replicate {A = ℕ} _ 0))
+enq-verdict-once k a x y e d p q = let room = a .1 .1 .1 .1 .0 in p (replicate room 0) (length-replicate {A = ℕ} room 0) ∙ sym (q (replicate room 0) (length-replicate {A = ℕ} room 0))
 
 pub deq-verdict-once : Once deq-verdict.Post
-deq-verdict-once k a x y e d p q = p (replicate _ 0) (length-replicate {A = ℕ} _ 0) ∙ sym (q (replicate _ 0) (length-replicate {A = ℕ} _ 0))
+deq-verdict-once k a x y e d p q = let room = a .1 .1 .1 .1 .0 in p (replicate room 0) (length-replicate {A = ℕ} room 0) ∙ sym (q (replicate room 0) (length-replicate {A = ℕ} room 0))

@@ -19,7 +19,7 @@ impl Tables {
             Gate::Open => {
                 let e = self.events;
                 let f = self.family;
-                let w = signals::waits::waited(e, f, caller, ecbs, count);
+                let w = signals::wait::waited(e, f, caller, ecbs, count);
                 let verdict = w.verdict;
                 let l = w.tables;
                 let next = self.signalled(l);

@@ -7,7 +7,7 @@ use Rattle.signals.proofs.waiters_good.Reads as waiters-good
 use Rattle.signals.proofs.needs_good.Reads as needs-good
 use Rattle.signals.proofs.post.Reads as post
 use Rattle.signals.proofs.posts.posted.Reads as posted
-use Rattle.signals.proofs.waits.waited.Reads as waited
+use Rattle.signals.proofs.wait.waited.Reads as waited
 
 pub cleared-once : Once cleared.Post
 cleared-once k a x y e d p q = p ∙ sym q

@@ -2,7 +2,7 @@
 pub mod clears;
 pub mod ending;
 pub mod posts;
-pub mod waits;
+pub mod wait;
 
 use events::Events;
 use family::Family;

@@ -4,8 +4,8 @@ use Rattle.events.specs.Blocks.{ecbsIn}
 use Rattle.signals.specs.Served.{waitedIn}
 use Rattle.signals.proofs.Serving.{goes, refuses, fails}
 use borrow.Author.Needs.{needs}
-use Rattle.signals.proofs.waits.waited.Statement.{statement}
-use Rattle.signals.proofs.waits.waited.Tie as tie
+use Rattle.signals.proofs.wait.waited.Statement.{statement}
+use Rattle.signals.proofs.wait.waited.Tie as tie
 
 wait-verdict-requires : tie.Need-wait-verdict-requires
 wait-verdict-requires c κs = search needs

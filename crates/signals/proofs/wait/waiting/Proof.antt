@@ -3,8 +3,8 @@ use native.Mathlib.Omega.{arith}
 use Rattle.events.specs.Blocks.{ecbsIn}
 use Rattle.signals.proofs.Serving.{wait-few, goes-on, waits-on}
 use borrow.Author.Needs.{needs}
-use Rattle.signals.proofs.waits.waiting.Statement.{statement}
-use Rattle.signals.proofs.waits.waiting.Tie as tie
+use Rattle.signals.proofs.wait.waiting.Statement.{statement}
+use Rattle.signals.proofs.wait.waiting.Tie as tie
 
 complete-of-requires : tie.Need-complete-of-requires
 complete-of-requires c κs = search needs

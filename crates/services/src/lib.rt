@@ -14,8 +14,10 @@ pub mod post;
 pub mod serve;
 pub mod wait;
 
+use claims::Claimed;
 use claims::Claims;
 use endings::Whole;
+use endings::services::Settled;
 use events::Events;
 use family::Family;
 use kinds::Fault;
@@ -25,8 +27,11 @@ use kinds::Reply;
 use kinds::TaskNumber;
 use kinds::Verdict;
 use queue::Queue;
+use rooms::Stored;
+use signals::Signalled;
 use signals::Signals;
 use storage::Storage;
+use subtasks::attach::Attached;
 ghost use mathlib.Core.Path.{_≡_};
 ghost use Rattle.rules.specs.Steps.{refused as refusedOf, done as doneOf, keptBy, overStep};
 ghost use Rattle.rules.specs.Ending.{failing};
@@ -152,7 +157,7 @@ impl Tables {
     }
 
     // The ECBs and the tasks are as a service leaves them.
-    fn signalled(self, l: Signals) -> Answer
+    fn with_signals(self, l: Signals) -> Answer
         ensures { λ r. ⌜ said r ≡ doneOf 0 (withSignals self (l .events) (l .family)) ⌝ }
     {
         let e = l.events;
@@ -167,7 +172,7 @@ impl Tables {
     }
 
     // The areas are as a service leaves them.
-    fn stored(self, s: Storage, reply: Reply) -> Answer
+    fn with_areas(self, s: Storage, reply: Reply) -> Answer
         ensures { λ r. ⌜ said r ≡ replied reply (withStorage self s) ⌝ }
     {
         let mut next = self;
@@ -179,7 +184,7 @@ impl Tables {
     }
 
     // The queue and the tasks are as a service leaves them.
-    fn claimed(self, l: Claims, reply: Reply) -> Answer
+    fn with_claims(self, l: Claims, reply: Reply) -> Answer
         ensures { λ r. ⌜ said r ≡ replied reply (withQueue self (l .family) (l .queue)) ⌝ }
     {
         let q = l.queue;
@@ -194,7 +199,7 @@ impl Tables {
     }
 
     // The tasks are as a service leaves them.
-    fn attached(self, f: Family, reply: Reply) -> Answer
+    fn with_tasks(self, f: Family, reply: Reply) -> Answer
         ensures { λ r. ⌜ said r ≡ replied reply (withFamily self f) ⌝ }
     {
         let mut next = self;
@@ -238,5 +243,60 @@ impl Tables {
             Verdict::Refuse(why) => self.refused(why),
             Verdict::Fail(what) => self.failed(caller, what),
         }
+    }
+
+    // How each kind of service ends: what it made of its tables, and its verdict.
+    fn signalled(self, caller: TaskNumber, k: Signalled) -> Answer
+        requires { ⌜ Admitted self caller ⌝ }
+        ensures { λ r. ⌜ said r ≡ settledIn (k .verdict) self caller (doneOf 0 (withSignals self (k .tables .events) (k .tables .family))) ⌝ }
+    {
+        let l = k.tables;
+        let verdict = k.verdict;
+        let next = self.with_signals(l);
+        self.settled(caller, verdict, next)
+    }
+
+    fn stored(self, caller: TaskNumber, k: Stored) -> Answer
+        requires { ⌜ Admitted self caller ⌝ }
+        ensures { λ r. ⌜ said r ≡ settledIn (k .verdict) self caller (replied (k .reply) (withStorage self (k .storage))) ⌝ }
+    {
+        let s = k.storage;
+        let reply = k.reply;
+        let verdict = k.verdict;
+        let next = self.with_areas(s, reply);
+        self.settled(caller, verdict, next)
+    }
+
+    fn claimed(self, caller: TaskNumber, k: Claimed) -> Answer
+        requires { ⌜ Admitted self caller ⌝ }
+        ensures { λ r. ⌜ said r ≡ settledIn (k .verdict) self caller (replied (k .reply) (withQueue self (k .tables .family) (k .tables .queue))) ⌝ }
+    {
+        let l = k.tables;
+        let reply = k.reply;
+        let verdict = k.verdict;
+        let next = self.with_claims(l, reply);
+        self.settled(caller, verdict, next)
+    }
+
+    fn attached(self, caller: TaskNumber, k: Attached) -> Answer
+        requires { ⌜ Admitted self caller ⌝ }
+        ensures { λ r. ⌜ said r ≡ settledIn (k .verdict) self caller (replied (k .reply) (withFamily self (k .family))) ⌝ }
+    {
+        let f = k.family;
+        let reply = k.reply;
+        let verdict = k.verdict;
+        let next = self.with_tasks(f, reply);
+        self.settled(caller, verdict, next)
+    }
+
+    fn left(self, caller: TaskNumber, k: Settled) -> Answer
+        requires { ⌜ Admitted self caller ⌝ }
+        ensures { λ r. ⌜ said r ≡ settledIn (k .verdict) self caller (doneOf 0 (tablesIn (k .tables))) ⌝ }
+    {
+        let w = k.tables;
+        let verdict = k.verdict;
+        let t = Tables::kept_in(w);
+        let next = t.done(0);
+        self.settled(caller, verdict, next)
     }
 }

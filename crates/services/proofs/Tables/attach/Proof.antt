@@ -1,13 +1,11 @@
-use mathlib.Core.Path.{_≡_, ap, _∙_}
 use mir.Facts.{toZ-ofZ}
 use lib.IntN.{ℤ}
-use Rattle.rules.specs.Attach.{attachVerdict, attachBody}
-use Rattle.subtasks.specs.Attaching.{attachedBy}
-use Rattle.rules.specs.Steps.{Step}
+use mathlib.Core.Path.{_≡_, sym, ap, _∙_}
+use Rattle.rules.specs.Steps.{Step, keptBy}
+use Rattle.services.specs.Kept.{stepOf, tablesOf}
 use Rattle.rules.specs.Admission.{gateOf}
-use Rattle.kinds.specs.declared.replies.Gate.the-variants.{Open}
-use Rattle.services.proofs.Glue.{gate-admits, admitted-packed, at-open, at-shut}
-use Rattle.services.proofs.Settling.{attach-settles}
+use Rattle.rules.specs.Attach.{attachBody}
+use Rattle.services.proofs.Glue.{gate-admits, at-open, at-shut}
 use borrow.Author.Needs.{needs}
 use Rattle.services.proofs.Tables.attach.Statement.{statement}
 use Rattle.services.proofs.Tables.attach.Tie as tie
@@ -24,23 +22,23 @@ refused-requires c κs = search needs
 enum-told : tie.Need-enum-told
 enum-told c = search needs
 
-attach-requires : tie.Need-attach-requires
-attach-requires c κs = search needs
-
-attached-requires : tie.Need-attached-requires
-attached-requires c κs = search needs
-
-settled-requires : tie.Need-settled-requires
-settled-requires c κs = gate-admits ((c .before .before .before .before .before .before .before .args) .self) ((c .before .before .before .before .before .before .before .args) .caller) _ ((c .before .before .before .before .before .before .gate) .ensures) (search needs)
+attach-body-requires : tie.Need-attach-body-requires
+attach-body-requires c κs = gate-admits ((c .before .before .before .args) .self) ((c .before .before .before .args) .caller) _ ((c .before .before .gate) .ensures) (search needs)
 
 returns : tie.Need-returns
 returns c = at-shut ((c .before .before .before .before .before .args) .self) (λ (s : Step). gateOf s ((c .before .before .before .before .before .args) .caller)) (λ (s : Step). attachBody s ((c .before .before .before .before .before .args) .caller) ((c .before .before .before .before .before .args) .lpmod) ((c .before .before .before .before .before .args) .dpmod) ((c .before .before .before .before .before .args) .ecb)) _ _ _ ((c .before .before .before .before .gate) .ensures) ((c .before .before .why) .given .1) ((c .refused) .ensures)
 
 returns-2 : tie.Need-returns-2
-returns-2 c =
-    let o : (c .before .before .before .before .before .before .before .gate) .result ≡ Open = search needs in
-    at-open ((c .before .before .before .before .before .before .before .before .args) .self) (λ (s : Step). gateOf s ((c .before .before .before .before .before .before .before .before .args) .caller)) (λ (s : Step). attachBody s ((c .before .before .before .before .before .before .before .before .args) .caller) ((c .before .before .before .before .before .before .before .before .args) .lpmod) ((c .before .before .before .before .before .before .before .before .args) .dpmod) ((c .before .before .before .before .before .before .before .before .args) .ecb)) _ _ ((c .before .before .before .before .before .before .before .gate) .ensures) o
-    (attach-settles ((c .before .before .before .before .before .before .before .before .args) .self) ((c .before .before .before .before .before .before .before .before .args) .caller) (admitted-packed ((c .before .before .before .before .before .before .before .before .args) .self) ((c .before .before .before .before .before .before .before .before .args) .caller) (gate-admits ((c .before .before .before .before .before .before .before .before .args) .self) ((c .before .before .before .before .before .before .before .before .args) .caller) _ ((c .before .before .before .before .before .before .before .gate) .ensures) o)) _ _ _ ((c .before .attached) .ensures) ((c .settled) .ensures) ((c .before .before .before .before .before .before .before .before .args) .lpmod) ((c .before .before .before .before .before .before .before .before .args) .dpmod) ((c .before .before .before .before .before .before .before .before .args) .ecb) ((c .before .before .before .attach) .ensures ∙ ap (λ (z : ℤ). attachedBy (attachVerdict ((c .before .before .before .before .before .before .before .before .args) .self .family .places) ((c .before .before .before .before .before .before .before .before .args) .lpmod) z ((c .before .before .before .before .before .before .before .before .args) .ecb)) ((c .before .before .before .before .before .before .before .before .args) .self .family) ((c .before .before .before .before .before .before .before .before .args) .caller) ((c .before .before .before .before .before .before .before .before .args) .lpmod) z ((c .before .before .before .before .before .before .before .before .args) .ecb)) (toZ-ofZ ((c .before .before .before .before .before .before .before .before .fits) .dpmod))))
+returns-2 c = at-open ((c .before .before .before .before .args) .self) (λ (s : Step). gateOf s ((c .before .before .before .before .args) .caller)) (λ (s : Step). attachBody s ((c .before .before .before .before .args) .caller) ((c .before .before .before .before .args) .lpmod) ((c .before .before .before .before .args) .dpmod) ((c .before .before .before .before .args) .ecb)) _ _ ((c .before .before .before .gate) .ensures) (search needs) ((c .attach-body) .ensures ∙ ap (λ (z : ℤ). keptBy tablesOf (attachBody (stepOf ((c .before .before .before .before .args) .self)) ((c .before .before .before .before .args) .caller) ((c .before .before .before .before .args) .lpmod) z ((c .before .before .before .before .args) .ecb))) (toZ-ofZ ((c .before .before .before .before .fits) .dpmod)))
 
 pub attach-spec : {M : Type 1} → statement M
-attach-spec = tie.close (tie.spec gate-requires enum-known-why refused-requires enum-told attach-requires attached-requires settled-requires returns returns-2)
+attach-spec =
+    tie.close
+    (tie.spec
+    gate-requires
+    enum-known-why
+    refused-requires
+    enum-told
+    attach-body-requires
+    returns
+    returns-2)

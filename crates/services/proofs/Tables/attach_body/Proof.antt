@@ -1,0 +1,22 @@
+use mathlib.Core.Path.{refl, ap, _∙_}
+use mir.Facts.{toZ-ofZ}
+use lib.IntN.{ℤ}
+use Rattle.rules.specs.Attach.{attachVerdict}
+use Rattle.subtasks.specs.Attaching.{attachedBy}
+use Rattle.services.proofs.Glue.{admitted-packed}
+use Rattle.services.proofs.Settling.{attach-settles}
+use borrow.Author.Needs.{needs}
+use Rattle.services.proofs.Tables.attach_body.Statement.{statement}
+use Rattle.services.proofs.Tables.attach_body.Tie as tie
+
+attach-requires : tie.Need-attach-requires
+attach-requires c κs = search needs
+
+attached-requires : tie.Need-attached-requires
+attached-requires c κs = (c .before .before .pre)
+
+returns : tie.Need-returns
+returns c = attach-settles ((c .before .before .before .args) .self) ((c .before .before .before .args) .caller) (admitted-packed ((c .before .before .before .args) .self) ((c .before .before .before .args) .caller) (c .before .before .before .pre)) _ _ _ refl ((c .attached) .ensures) ((c .before .before .before .args) .lpmod) ((c .before .before .before .args) .dpmod) ((c .before .before .before .args) .ecb) ((c .before .attach) .ensures ∙ ap (λ (z : ℤ). attachedBy (attachVerdict ((c .before .before .before .args) .self .family .places) ((c .before .before .before .args) .lpmod) z ((c .before .before .before .args) .ecb)) ((c .before .before .before .args) .self .family) ((c .before .before .before .args) .caller) ((c .before .before .before .args) .lpmod) z ((c .before .before .before .args) .ecb)) (toZ-ofZ ((c .before .before .before .fits) .dpmod)))
+
+pub attach-body-spec : {M : Type 1} → statement M
+attach-body-spec = tie.close (tie.spec attach-requires attached-requires returns)

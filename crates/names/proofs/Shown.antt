@@ -53,16 +53,16 @@ differ a b h =
     (λ e. h (sym (shown-length (a .length) (a .minor)) ∙ e ∙ shown-length (b .length) (b .minor))))
     ∙ and-false (sameBytes (a .major) (b .major)))
 
--- the same, where the lengths are one and the major parts are the same
-pub minors : (a b : Name) (k : ℕ) → a .length ≡ b .length → sameBytes (a .major) (b .major) ≡ true
+-- the same, where the lengths are one: only the bytes that are there are compared
+pub minors : (a b : Name) (k : ℕ) → a .length ≡ b .length
     → length (a .minor) ≡ longestMinor → length (b .minor) ≡ longestMinor → k ≡ min (a .length) longestMinor
-    → sameBytes (take k (a .minor)) (take k (b .minor)) ≡ sameName (resourceOf a) (resourceOf b)
+    → sameName (resourceOf a) (resourceOf b) ≡ (sameBytes (a .major) (b .major) && sameBytes (take k (a .minor)) (take k (b .minor)))
 unfolding shown
-minors a b k e m u v w =
-    ap (λ (j : ℕ). sameBytes (take j (a .minor)) (take j (b .minor))) (w ∙ ap (min (a .length)) (sym u))
+minors a b k e u v w =
+    ap (λ (t : Bool). sameBytes (a .major) (b .major) && t)
+    (sym (ap (λ (j : ℕ). sameBytes (take j (a .minor)) (take j (b .minor))) (w ∙ ap (min (a .length)) (sym u))
     ∙ same-front (a .length) (a .minor) (b .minor) (replicate (a .length) 0) (u ∙ sym v)
-    ∙ ap (λ (n : ℕ). sameBytes (take (a .length) (a .minor ++ replicate (a .length) 0)) (take n (b .minor ++ replicate n 0))) e
-    ∙ sym (rw m)
+    ∙ ap (λ (n : ℕ). sameBytes (take (a .length) (a .minor ++ replicate (a .length) 0)) (take n (b .minor ++ replicate n 0))) e))
 
 pub legal-is : (n : Name) (r : Bool) → length (n .major) ≡ majorBytes → r ≡ minorGood (n .length) → r ≡ legal (resourceOf n)
 unfolding legal

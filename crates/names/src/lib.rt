@@ -19,22 +19,22 @@ fn used(length: u16) -> usize
     }
 }
 
-// Lengths first: most names that differ differ there.
+// Lengths first, then the minor parts: most names that differ differ there.
 pub fn same_name(a: Name, b: Name) -> bool
     ensures { λ r. ⌜ r ≡ sameName (resourceOf a) (resourceOf b) ⌝ }
 {
     if a.length != b.length {
         return false;
     }
-    let am = a.major;
-    let bm = b.major;
-    if !lists::same_bytes(&am, &bm) {
-        return false;
-    }
     let n = used(a.length);
     let ai = a.minor;
     let bi = b.minor;
-    lists::same_bytes(&ai[..n], &bi[..n])
+    if !lists::same_bytes(&ai[..n], &bi[..n]) {
+        return false;
+    }
+    let am = a.major;
+    let bm = b.major;
+    lists::same_bytes(&am, &bm)
 }
 
 // The major part is as long as its array, so only the minor part's length is to be tested.

@@ -1,0 +1,80 @@
+// Bytes to be written, kept in a block until it is full. Each function takes the place where the block's bytes end and answers the new one; a place
+// past the block counts as its end.
+ghost use mathlib.Core.Path.{_≡_};
+
+pub(crate) const BLOCK: usize = 65536;
+
+// Writes the block's bytes, and the block is empty.
+pub(crate) fn flush(out: &mut [u8; BLOCK], at: usize) -> usize
+    ensures { λ r. ⌜ r ≡ 0 ⌝ }
+{
+    write_front(out, at);
+    0
+}
+
+fn write_front(bytes: &mut [u8], n: usize) {
+    if n < bytes.len() {
+        io::write_all(1, &bytes[..n]);
+    } else {
+        io::write_all(1, bytes);
+    }
+}
+
+pub(crate) fn put_byte(out: &mut [u8; BLOCK], at: usize, byte: u8) -> usize {
+    if at < BLOCK {
+        out[at] = byte;
+        return at + 1;
+    }
+    let start = flush(out, at);
+    out[start] = byte;
+    start + 1
+}
+
+pub(crate) fn put(out: &mut [u8; BLOCK], at: usize, bytes: &[u8]) -> usize {
+    let mut k = at;
+    let mut i = 0;
+    while i < bytes.len() {
+        k = put_byte(out, k, bytes[i]);
+        i += 1;
+    }
+    k
+}
+
+// Decimal digits, from the last one on.
+pub(crate) fn put_number(out: &mut [u8; BLOCK], at: usize, n: u32) -> usize {
+    if n < 10 {
+        return put_byte(out, at, b'0' + n as u8);
+    }
+    let mut digits = [0u8; 10];
+    let mut first: usize = 10;
+    let mut rest = n;
+    while 0 < rest {
+        first -= 1;
+        digits[first] = b'0' + (rest % 10) as u8;
+        rest /= 10;
+    }
+    put(out, at, &digits[first..])
+}
+
+fn hex_digit(n: u8) -> u8 {
+    if n < 10 {
+        return b'0' + n;
+    }
+    b'a' + n % 16 - 10
+}
+
+// Two lower case digits.
+pub(crate) fn put_hex(out: &mut [u8; BLOCK], at: usize, byte: u8) -> usize {
+    let k = put_byte(out, at, hex_digit(byte / 16));
+    put_byte(out, k, hex_digit(byte % 16))
+}
+
+pub(crate) fn put_bytes_hex(out: &mut [u8; BLOCK], at: usize, bytes: &[u8]) -> usize {
+    let mut k = at;
+    let mut i = 0;
+    while i < bytes.len() {
+        k = put_hex(out, k, bytes[i]);
+        i += 1;
+    }
+    k
+}

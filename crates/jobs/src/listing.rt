@@ -1,0 +1,118 @@
+// What is answered: the line of a request, and the lines of a dump.
+use crate::area_row::RawArea;
+use crate::ecb_row::RawEcb;
+use crate::entry_row::RawEntry;
+use crate::lines::put_area;
+use crate::lines::put_ecb;
+use crate::lines::put_entry;
+use crate::lines::put_field;
+use crate::lines::put_step;
+use crate::lines::put_task;
+use crate::raw::flag;
+use crate::task_row::RawTask;
+use crate::text::BLOCK;
+use crate::text::put;
+use crate::text::put_byte;
+use crate::text::put_bytes_hex;
+use crate::text::put_number;
+use events::Events;
+use family::Family;
+use kinds::Area;
+use kinds::EcbNumber;
+use kinds::Slot;
+use kinds::TaskNumber;
+use queue::Queue;
+use services::Tables;
+use storage::Storage;
+
+// Every byte of a codes area before a request.
+pub(crate) const UNWRITTEN: u8 = 0xee;
+
+pub(crate) fn answer(
+    out: &mut [u8; BLOCK],
+    at: usize,
+    number: u16,
+    besides: u32,
+    codes: &[u8],
+) -> usize {
+    let k = put_number(out, at, number as u32);
+    let k = put_field(out, k, besides);
+    let k = put_codes(out, k, codes);
+    put_byte(out, k, b'\n')
+}
+
+fn put_codes(out: &mut [u8; BLOCK], at: usize, codes: &[u8]) -> usize {
+    if !any_written(codes) {
+        return at;
+    }
+    let k = put(out, at, b" codes=");
+    put_bytes_hex(out, k, codes)
+}
+
+fn any_written(codes: &[u8]) -> bool {
+    let mut i = 0;
+    while i < codes.len() {
+        if codes[i] != UNWRITTEN {
+            return true;
+        }
+        i += 1;
+    }
+    false
+}
+
+pub(crate) fn dump(t: Tables, out: &mut [u8; BLOCK], at: usize) -> usize {
+    let f = t.family;
+    let q = t.queue;
+    let e = t.events;
+    let s = t.storage;
+    let k = put_step(out, at, flag(t.over), t.code as u32);
+    let k = put_tasks(f, out, k);
+    let k = put_entries(q, out, k);
+    let k = put_ecbs(e, out, k);
+    let k = put_areas(s, out, k);
+    put(out, k, b".\n")
+}
+
+fn put_tasks(f: Family, out: &mut [u8; BLOCK], at: usize) -> usize {
+    let mut k = at;
+    let mut i: usize = 0;
+    while i < TaskNumber::PLACES {
+        let x = f.places[i];
+        i += 1;
+        k = put_task(out, k, i as u32, RawTask::of(x));
+    }
+    k
+}
+
+fn put_entries(q: Queue, out: &mut [u8; BLOCK], at: usize) -> usize {
+    let mut k = at;
+    let mut i: usize = 0;
+    while i < Slot::PLACES {
+        let x = q.slots[i];
+        k = put_entry(out, k, i as u32, RawEntry::of(x));
+        i += 1;
+    }
+    k
+}
+
+fn put_ecbs(e: Events, out: &mut [u8; BLOCK], at: usize) -> usize {
+    let mut k = at;
+    let mut i: usize = 0;
+    while i < EcbNumber::PLACES {
+        let x = e.ecbs[i];
+        k = put_ecb(out, k, i as u32, RawEcb::of(x));
+        i += 1;
+    }
+    k
+}
+
+fn put_areas(s: Storage, out: &mut [u8; BLOCK], at: usize) -> usize {
+    let mut k = at;
+    let mut i: usize = 0;
+    while i < Area::PLACES {
+        let x = s.areas[i];
+        k = put_area(out, k, i as u32, RawArea::of(x));
+        i += 1;
+    }
+    k
+}

@@ -14,7 +14,7 @@ ghost use Rattle.events.specs.Blocks.{ecbsIn};
 ghost use Rattle.services.specs.Serve.{servedOf};
 
 // A fresh step whose first task has the priorities 200 and 150.
-pub fn fresh(text: &[u8]) -> Tables {
+pub(crate) fn fresh(text: &[u8]) -> Tables {
     let start = Tables::fresh(200, 150);
     let reply = start.reply;
     let untouched = [238u8; 4];
@@ -23,7 +23,7 @@ pub fn fresh(text: &[u8]) -> Tables {
 }
 
 // The answer is told, and its tables come back for the next request. The codes area is of four bytes, each hex ee.
-pub fn beside(text: &[u8], t: Tables, request: Request, names: NameList, ecbs: EcbList) -> Tables
+pub(crate) fn beside(text: &[u8], t: Tables, request: Request, names: NameList, ecbs: EcbList) -> Tables
     ensures { λ r. ⌜ r ≡ servedOf t (record { request = request; names = namesIn names; ecbs = ecbsIn ecbs; area = 238 ∷ 238 ∷ 238 ∷ 238 ∷ [] }) .outcome .tables ⌝ }
 {
     let mut codes = [238u8; 4];
@@ -35,17 +35,17 @@ pub fn beside(text: &[u8], t: Tables, request: Request, names: NameList, ecbs: E
 }
 
 // A request that has no use for a list.
-pub fn plainly(text: &[u8], t: Tables, request: Request) -> Tables {
+pub(crate) fn plainly(text: &[u8], t: Tables, request: Request) -> Tables {
     beside(text, t, request, no_names(), no_ecbs())
 }
 
 // An ENQ or a DEQ.
-pub fn naming(text: &[u8], t: Tables, request: Request, names: NameList) -> Tables {
+pub(crate) fn naming(text: &[u8], t: Tables, request: Request, names: NameList) -> Tables {
     beside(text, t, request, names, no_ecbs())
 }
 
 // A WAIT.
-pub fn waiting(text: &[u8], t: Tables, request: Request, ecbs: EcbList) -> Tables {
+pub(crate) fn waiting(text: &[u8], t: Tables, request: Request, ecbs: EcbList) -> Tables {
     beside(text, t, request, no_names(), ecbs)
 }
 
@@ -64,7 +64,7 @@ fn no_ecbs() -> EcbList {
 }
 
 // A list of one name. It stands at the places past the count too, where it counts for nothing.
-pub fn one(exclusive: bool, name: Name) -> NameList {
+pub(crate) fn one(exclusive: bool, name: Name) -> NameList {
     let wanted = Wanted { exclusive, name };
     NameList {
         count: 1,
@@ -73,7 +73,7 @@ pub fn one(exclusive: bool, name: Name) -> NameList {
 }
 
 // A name whose minor part begins with two bytes, and then has zeros.
-pub fn name(first: u8, second: u8, length: u16) -> Name {
+pub(crate) fn name(first: u8, second: u8, length: u16) -> Name {
     let mut minor = [0u8; Name::LONGEST];
     minor[0] = first;
     minor[1] = second;

@@ -32,7 +32,7 @@ fn group(number: u8, count: u32) -> NameList {
 }
 
 // 11: 44 bytes are taken, 45 are not.
-pub fn case_11_names() -> Tables {
+pub(crate) fn case_11_names() -> Tables {
     let t = ask::fresh(b"11: fresh step, 200/150");
     let taken = enq(
         b"11: minor name of 44 bytes",
@@ -61,7 +61,7 @@ fn with_seven_groups(t: Tables) -> Tables {
 }
 
 // 11: entry 128 is taken, 129 is not, and neither is a list of which a part would fit.
-pub fn case_11_entries(t: Tables) {
+pub(crate) fn case_11_entries(t: Tables) {
     let most = with_seven_groups(t);
     let but_one = enq(b"11: 14 names", most, group(8, 14));
     show::entry_count(b"11", but_one.queue);

@@ -20,7 +20,7 @@ fn attach(text: &[u8], t: Tables, lpmod: u16, dpmod: i16) -> Tables {
 }
 
 // 5: 170/170, dispatching held to the new limit.
-pub fn case_5() -> Tables {
+pub(crate) fn case_5() -> Tables {
     let t = ask::fresh(b"5: fresh step, 200/150");
     let r = attach(b"5: LPMOD 30, DPMOD 40", t, 30, 40);
     show::priorities(b"5", r.family, TaskNumber(2));
@@ -28,7 +28,7 @@ pub fn case_5() -> Tables {
 }
 
 // 6: 200/0, neither below zero; and limit 0.
-pub fn case_6(t: Tables) {
+pub(crate) fn case_6(t: Tables) {
     let low = attach(b"6: LPMOD 0, DPMOD -160", t, 0, -160);
     show::priorities(b"6", low.family, TaskNumber(3));
     let lowest = attach(b"6: LPMOD 255, DPMOD 0", low, 255, 0);

@@ -56,7 +56,7 @@ fn told(text: &[u8], t: Tables) {
 }
 
 // 1: A and B own; C and D wait.
-pub fn case_1() -> Tables {
+pub(crate) fn case_1() -> Tables {
     let t = four_tasks();
     let a = enq(b"1: A asks, shared", t, 2, Ret::None, false);
     let b = enq(b"1: B asks, shared", a, 3, Ret::None, false);
@@ -67,7 +67,7 @@ pub fn case_1() -> Tables {
 }
 
 // 2: B's CHNG is 4 while A owns too, and 0 after A's DEQ.
-pub fn case_2(t: Tables) -> Tables {
+pub(crate) fn case_2(t: Tables) -> Tables {
     let refused = enq(b"2: B asks for CHNG", t, 3, Ret::Chng, true);
     show::entries(b"2", refused.queue);
     let left = deq(b"2: A leaves", refused, 2);
@@ -77,7 +77,7 @@ pub fn case_2(t: Tables) -> Tables {
 }
 
 // 3: C owns alone after B, and D after C.
-pub fn case_3(t: Tables) {
+pub(crate) fn case_3(t: Tables) {
     let b = deq(b"3: B leaves", t, 3);
     told(b"3", b);
     let c = deq(b"3: C leaves", b, 4);
@@ -85,7 +85,7 @@ pub fn case_3(t: Tables) {
 }
 
 // 4, from 1: without C, whose mother detaches it, D owns too.
-pub fn case_4(t: Tables) {
+pub(crate) fn case_4(t: Tables) {
     let caller = TaskNumber(1);
     let task = TaskNumber(4);
     let r = ask::plainly(b"4: task 1 detaches C", t, Request::Detach { caller, task });

@@ -21,7 +21,7 @@ fn words(text: &[u8]) {
 }
 
 // The number, what goes besides and, where a byte was written, the codes area.
-pub fn answer(text: &[u8], reply: Reply, codes: &[u8; 4]) {
+pub(crate) fn answer(text: &[u8], reply: Reply, codes: &[u8; 4]) {
     words(text);
     words(b": ");
     number(reply.number() as u64);
@@ -48,7 +48,7 @@ fn byte(b: u8) {
 }
 
 // The entries in their order.
-pub fn entries(text: &[u8], q: Queue) {
+pub(crate) fn entries(text: &[u8], q: Queue) {
     let mut i: usize = 0;
     while i < Slot::PLACES {
         if i < q.count {
@@ -90,7 +90,7 @@ fn barred(q: Queue, n: usize, e: Slot) -> bool
     false
 }
 
-pub fn entry_count(text: &[u8], q: Queue) {
+pub(crate) fn entry_count(text: &[u8], q: Queue) {
     words(text);
     words(b": entries: ");
     number(q.count as u64);
@@ -98,7 +98,7 @@ pub fn entry_count(text: &[u8], q: Queue) {
 }
 
 // The tasks that wait, for names or for posts.
-pub fn waiting(text: &[u8], f: Family) {
+pub(crate) fn waiting(text: &[u8], f: Family) {
     words(text);
     words(b": tasks in a wait:");
     let mut n: u8 = TaskNumber::LOWEST;
@@ -118,7 +118,7 @@ fn waiter(f: Family, n: u8) {
     }
 }
 
-pub fn priorities(text: &[u8], f: Family, n: TaskNumber) {
+pub(crate) fn priorities(text: &[u8], f: Family, n: TaskNumber) {
     let task = family::at(f, n);
     words(text);
     words(b": limit ");
@@ -129,7 +129,7 @@ pub fn priorities(text: &[u8], f: Family, n: TaskNumber) {
 }
 
 // The areas by rising address.
-pub fn areas(text: &[u8], s: Storage) {
+pub(crate) fn areas(text: &[u8], s: Storage) {
     let mut i: usize = 0;
     while i < Area::PLACES {
         if i < s.count {
@@ -153,7 +153,7 @@ fn area(text: &[u8], a: Area) {
 }
 
 // The words of the first three ECBs after ECB 0, as the book has them.
-pub fn ecbs(text: &[u8], e: Events) {
+pub(crate) fn ecbs(text: &[u8], e: Events) {
     words(text);
     words(b": words of ECBs 1, 2, 3:");
     word(e, 1);
@@ -168,7 +168,7 @@ fn word(e: Events, n: u8) {
     io::print_hex(1, events::word(x), 8);
 }
 
-pub fn step(text: &[u8], t: Tables) {
+pub(crate) fn step(text: &[u8], t: Tables) {
     words(text);
     words(b": step over ");
     number(if t.over { 1 } else { 0 });

@@ -33,7 +33,7 @@ fn freemain(text: &[u8], t: Tables, address: Address, length: u32, subpool: u8) 
 }
 
 // 7: four areas, each at the lowest address whose pages hold nobody else's.
-pub fn case_7() -> Tables {
+pub(crate) fn case_7() -> Tables {
     let t = ask::fresh(b"7: fresh step, 200/150");
     let a = getmain(b"7: 100 bytes of subpool 10", t, 100, 10, false);
     let b = getmain(b"7: 400 bytes of subpool 10", a, 400, 10, false);
@@ -44,7 +44,7 @@ pub fn case_7() -> Tables {
 }
 
 // 8: the page of the area that is freed still holds another of its subpool.
-pub fn case_8(t: Tables) {
+pub(crate) fn case_8(t: Tables) {
     let freed = freemain(
         b"8: 100 bytes at 0, subpool 10, are freed",
         t,
@@ -57,7 +57,7 @@ pub fn case_8(t: Tables) {
 }
 
 // 9: the whole region, and then no room.
-pub fn case_9() {
+pub(crate) fn case_9() {
     let t = ask::fresh(b"9: fresh step, 200/150");
     let all = getmain(b"9: 131,072 bytes of subpool 3", t, 131072, 3, false);
     let four = getmain(b"9: 8 bytes, conditional", all, 8, 3, true);

@@ -43,7 +43,7 @@ fn told(t: Tables) {
 }
 
 // 10: one post is enough for who waits for two of three with one complete, and leaves no wait bit.
-pub fn case_10() {
+pub(crate) fn case_10() {
     let t = with_waiter();
     let one = post(b"10: POST of ECB 1, code 7", t, EcbNumber(1), 7);
     let caller = TaskNumber(2);

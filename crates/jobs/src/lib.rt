@@ -1,12 +1,27 @@
-// Job scripts: lines of text, read and answered.
+// Job scripts: requests as lines of text, answered line by line. Reading decides nothing about a request; `services` answers it.
 mod area_row;
+mod beside;
+mod dpmod;
 mod ecb_row;
 mod entry_row;
+mod form;
+mod hex;
+mod input;
 mod lines;
 mod listing;
+mod name;
+mod number;
 mod outcome;
+mod plain;
 mod poke;
+mod poke_form;
 mod poking;
 mod raw;
+mod saying;
+mod script;
 mod task_row;
 mod text;
+mod turn;
+mod word;
+
+pub use script::run;

@@ -35,7 +35,7 @@ pub(crate) enum AreaField {
     Owner,
 }
 
-// `at` is the place in its table: that of task n is n - 1. The bytes of a major or a minor part stand beside the poke.
+// `at` is the place in its table: that of task n is n - 1. A major or a minor part is no number, and is poked by itself.
 pub(crate) enum Poke {
     Step {
         field: StepField,
@@ -50,12 +50,6 @@ pub(crate) enum Poke {
         at: usize,
         field: EntryField,
         value: u32,
-    },
-    Major {
-        at: usize,
-    },
-    Minor {
-        at: usize,
     },
     Ecb {
         at: usize,

@@ -27,16 +27,11 @@ use storage::Storage;
 ghost use Prim.Native.Nat.{_<_};
 ghost use Rattle.kinds.specs.Limits.{mostEntries};
 
-// The name has the bytes of a poked major or minor part.
-pub(crate) fn poked(t: Tables, p: Poke, name: Name) -> Poked {
-    let major = name.major;
-    let minor = name.minor;
+pub(crate) fn poked(t: Tables, p: Poke) -> Poked {
     match p {
         Poke::Step { field, value } => poked_step(t, field, value),
         Poke::Task { at, field, value } => poked_task(t, at, field, value),
         Poke::Entry { at, field, value } => poked_entry(t, at, field, value),
-        Poke::Major { at } => poked_major(t, at, major),
-        Poke::Minor { at } => poked_minor(t, at, minor),
         Poke::Ecb { at, field, value } => poked_ecb(t, at, field, value),
         Poke::Area { at, field, value } => poked_area(t, at, field, value),
     }
@@ -99,7 +94,7 @@ fn poked_entry(t: Tables, at: usize, field: EntryField, value: u32) -> Poked {
     stored_entry(t, at, x.with(field, value))
 }
 
-fn poked_major(t: Tables, at: usize, major: [u8; Name::MAJOR]) -> Poked {
+pub(crate) fn poked_major(t: Tables, at: usize, major: [u8; Name::MAJOR]) -> Poked {
     if Slot::PLACES <= at {
         return not_held(t);
     }
@@ -108,7 +103,7 @@ fn poked_major(t: Tables, at: usize, major: [u8; Name::MAJOR]) -> Poked {
     stored_entry(t, at, x.with_major(major))
 }
 
-fn poked_minor(t: Tables, at: usize, minor: [u8; Name::LONGEST]) -> Poked {
+pub(crate) fn poked_minor(t: Tables, at: usize, minor: [u8; Name::LONGEST]) -> Poked {
     if Slot::PLACES <= at {
         return not_held(t);
     }

@@ -1,0 +1,90 @@
+use Prim.Native.Nat.{_≤_, _-_}
+use mathlib.Core.Path.{_≡_}
+use native.Mathlib.Omega.{arith}
+use borrow.Author.Needs.{needs}
+use lib.ListN.{length}
+use Rattle.jobs.proofs.input.longer.Statement.{statement}
+use Rattle.jobs.proofs.input.longer.Tie as tie
+use Rattle.jobs.proofs.input.longer.Reads as reads
+use Rattle.jobs.proofs.input.longer.Lts as lts
+use Rattle.jobs.proofs.input.filled.Reads as filled-reads
+use Rattle.jobs.proofs.input.last.Reads as last-reads
+use Rattle.jobs.proofs.input.line_end.Reads as line-end-reads
+use Rattle.jobs.proofs.input.rest_of_long.Reads as rest-of-long-reads
+
+abbrev Inv-loop : tie.InvT-loop
+Inv-loop block₀ kept end₀ block end = (length block ≡ 65536) × (length block₀ ≡ 65536) × (end ≤ 65536)
+
+abbrev μ-loop : tie.MeasureT-loop
+μ-loop block₀ kept end₀ block end = 16384 - end
+
+loop-holds : tie.Need-loop-holds Inv-loop μ-loop
+loop-holds c = omega arith
+
+filled-requires : tie.Need-filled-requires Inv-loop μ-loop
+filled-requires c κs = omega arith
+
+last-requires : tie.Need-last-requires Inv-loop μ-loop
+last-requires c κs = omega arith
+
+same-length : tie.Need-same-length Inv-loop μ-loop
+same-length c = omega arith
+
+returns : tie.Need-returns Inv-loop μ-loop
+returns c = search needs
+
+add-line-end : tie.Need-add-line-end Inv-loop μ-loop
+add-line-end c = omega arith
+
+line-end-requires : tie.Need-line-end-requires Inv-loop μ-loop
+line-end-requires c κs = omega arith
+
+add-end : tie.Need-add-end Inv-loop μ-loop
+add-end c = omega arith
+
+add-t12 : tie.Need-add-t12 Inv-loop μ-loop
+add-t12 c = omega arith
+
+same-length-2 : tie.Need-same-length-2 Inv-loop μ-loop
+same-length-2 c = omega arith
+
+returns-2 : tie.Need-returns-2 Inv-loop μ-loop
+returns-2 c = search needs
+
+loop-less : tie.Need-loop-less Inv-loop μ-loop
+loop-less c = omega arith
+
+loop-again : tie.Need-loop-again Inv-loop μ-loop
+loop-again c = omega arith
+
+rest-of-long-requires : tie.Need-rest-of-long-requires Inv-loop μ-loop
+rest-of-long-requires c κs = omega arith
+
+same-length-3 : tie.Need-same-length-3 Inv-loop μ-loop
+same-length-3 c = omega arith
+
+returns-3 : tie.Need-returns-3 Inv-loop μ-loop
+returns-3 c = search needs
+
+pub longer-spec : {M : Type 1} → statement M
+longer-spec =
+    tie.close
+    (tie.spec
+    Inv-loop
+    μ-loop
+    loop-holds
+    filled-requires
+    last-requires
+    same-length
+    returns
+    add-line-end
+    line-end-requires
+    add-end
+    add-t12
+    same-length-2
+    returns-2
+    loop-less
+    loop-again
+    rest-of-long-requires
+    same-length-3
+    returns-3)

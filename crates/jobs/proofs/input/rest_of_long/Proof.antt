@@ -1,0 +1,88 @@
+use mathlib.Core.Path.{_≡_}
+use native.Mathlib.Omega.{arith}
+use borrow.Author.Needs.{needs}
+use lib.ListN.{length}
+use Rattle.jobs.proofs.input.rest_of_long.Statement.{statement}
+use Rattle.jobs.proofs.input.rest_of_long.Tie as tie
+use Rattle.jobs.proofs.input.rest_of_long.Reads as reads
+use Rattle.jobs.proofs.input.rest_of_long.Lts as lts
+use Rattle.jobs.proofs.input.line_end.Reads as line-end-reads
+use Rattle.jobs.proofs.input.long.Reads as long-reads
+use Rattle.jobs.proofs.input.read_some.Reads as read-some-reads
+
+abbrev Inv-loop : tie.InvT-loop
+Inv-loop block₀ turns₀ block turns = (length block ≡ 65536) × (length block₀ ≡ 65536)
+
+abbrev μ-loop : tie.MeasureT-loop
+μ-loop block₀ turns₀ block turns = turns
+
+loop-holds : tie.Need-loop-holds Inv-loop μ-loop
+loop-holds c = omega arith
+
+read-some-requires : tie.Need-read-some-requires Inv-loop μ-loop
+read-some-requires c κs = search needs
+
+long-requires : tie.Need-long-requires Inv-loop μ-loop
+long-requires c κs = omega arith
+
+same-length : tie.Need-same-length Inv-loop μ-loop
+same-length c = omega arith
+
+returns : tie.Need-returns Inv-loop μ-loop
+returns c = search needs
+
+line-end-requires : tie.Need-line-end-requires Inv-loop μ-loop
+line-end-requires c κs = omega arith
+
+add-long : tie.Need-add-long Inv-loop μ-loop
+add-long c = omega arith
+
+long-requires-2 : tie.Need-long-requires-2 Inv-loop μ-loop
+long-requires-2 c κs = omega arith
+
+same-length-2 : tie.Need-same-length-2 Inv-loop μ-loop
+same-length-2 c = omega arith
+
+returns-2 : tie.Need-returns-2 Inv-loop μ-loop
+returns-2 c = search needs
+
+sub-turns : tie.Need-sub-turns Inv-loop μ-loop
+sub-turns c = omega arith
+
+loop-less : tie.Need-loop-less Inv-loop μ-loop
+loop-less c = omega arith
+
+loop-again : tie.Need-loop-again Inv-loop μ-loop
+loop-again c = omega arith
+
+long-requires-3 : tie.Need-long-requires-3 Inv-loop μ-loop
+long-requires-3 c κs = omega arith
+
+same-length-3 : tie.Need-same-length-3 Inv-loop μ-loop
+same-length-3 c = omega arith
+
+returns-3 : tie.Need-returns-3 Inv-loop μ-loop
+returns-3 c = search needs
+
+pub rest-of-long-spec : {M : Type 1} → statement M
+rest-of-long-spec =
+    tie.close
+    (tie.spec
+    Inv-loop
+    μ-loop
+    loop-holds
+    read-some-requires
+    long-requires
+    same-length
+    returns
+    line-end-requires
+    add-long
+    long-requires-2
+    same-length-2
+    returns-2
+    sub-turns
+    loop-less
+    loop-again
+    long-requires-3
+    same-length-3
+    returns-3)

@@ -1,0 +1,67 @@
+use Prim.Native.Nat.{_≤_, _-_}
+use mathlib.Core.Path.{_≡_, refl}
+use native.Mathlib.Omega.{arith}
+use borrow.Author.Needs.{needs}
+use lib.ListN.{length, length-set}
+use Rattle.jobs.proofs.name.read_major.Statement.{statement}
+use Rattle.jobs.proofs.name.read_major.Tie as tie
+use Rattle.jobs.proofs.name.read_major.Reads as reads
+use Rattle.jobs.proofs.name.read_major.Lts as lts
+use Rattle.jobs.proofs.hex.byte.Reads as byte-reads
+
+abbrev Inv-loop : tie.InvT-loop
+Inv-loop line at bytes₀ i₀ bytes i = (i ≤ 8) × (length bytes ≡ 8)
+
+abbrev μ-loop : tie.MeasureT-loop
+μ-loop line at bytes₀ i₀ bytes i = 8 - i
+
+loop-holds : tie.Need-loop-holds Inv-loop μ-loop
+loop-holds c = (omega arith, refl)
+
+mul-byte : tie.Need-mul-byte Inv-loop μ-loop
+mul-byte c = search needs
+
+add-byte : tie.Need-add-byte Inv-loop μ-loop
+add-byte c = search needs
+
+byte-requires : tie.Need-byte-requires Inv-loop μ-loop
+byte-requires c κs = search needs
+
+returns : tie.Need-returns Inv-loop μ-loop
+returns c = search needs
+
+cast-bytes : tie.Need-cast-bytes Inv-loop μ-loop
+cast-bytes c = search needs
+
+array-write-bytes : tie.Need-array-write-bytes Inv-loop μ-loop
+array-write-bytes c = search needs
+
+add-i : tie.Need-add-i Inv-loop μ-loop
+add-i c = search needs
+
+loop-less : tie.Need-loop-less Inv-loop μ-loop
+loop-less c = search needs
+
+loop-again : tie.Need-loop-again Inv-loop μ-loop
+loop-again c = (omega arith, simp length-set (omega arith))
+
+returns-2 : tie.Need-returns-2 Inv-loop μ-loop
+returns-2 c = search needs
+
+pub read-major-spec : {M : Type 1} → statement M
+read-major-spec =
+    tie.close
+    (tie.spec
+    Inv-loop
+    μ-loop
+    loop-holds
+    mul-byte
+    add-byte
+    byte-requires
+    returns
+    cast-bytes
+    array-write-bytes
+    add-i
+    loop-less
+    loop-again
+    returns-2)

@@ -1,0 +1,83 @@
+use Prim.Native.Nat.{_≤_, _-_}
+use mathlib.Core.Path.{_≡_, refl, sym}
+use native.Mathlib.Omega.{arith}
+use borrow.Author.Needs.{needs}
+use lib.ListN.{length}
+use Rattle.jobs.proofs.script.run.Statement.{statement}
+use Rattle.jobs.proofs.script.run.Tie as tie
+use Rattle.jobs.proofs.script.run.Reads as reads
+use Rattle.jobs.proofs.script.run.Lts as lts
+use Rattle.jobs.proofs.input.line.Reads as line-reads
+use Rattle.jobs.proofs.saying.say.Reads as say-reads
+use Rattle.jobs.proofs.text.flush.Reads as flush-reads
+use Rattle.jobs.proofs.turn.taken.Reads as taken-reads
+use Rattle.services.proofs.Tables.fresh.Reads as fresh-reads
+
+abbrev Inv-loop : tie.InvT-loop
+Inv-loop block₀ out₀ tables₀ next₀ end₀ at₀ number₀ block out tables next end at number = (length block ≡ 65536) × (next ≤ end) × (end ≤ 65536)
+
+abbrev μ-loop : tie.MeasureT-loop
+μ-loop block₀ out₀ tables₀ next₀ end₀ at₀ number₀ block out tables next end at number = 18446744073709551615 - number
+
+fresh-requires : tie.Need-fresh-requires Inv-loop μ-loop
+fresh-requires c κs = search needs
+
+loop-holds : tie.Need-loop-holds Inv-loop μ-loop
+loop-holds c = (refl, omega arith, omega arith)
+
+slice-aggregate-line : tie.Need-slice-aggregate-line Inv-loop μ-loop
+slice-aggregate-line c = sym (c .before .before .loop .inv .0)
+
+line-requires : tie.Need-line-requires Inv-loop μ-loop
+line-requires c κs = omega arith
+
+add-number : tie.Need-add-number Inv-loop μ-loop
+add-number c = omega arith
+
+sub-taken : tie.Need-sub-taken Inv-loop μ-loop
+sub-taken c = omega arith
+
+part-taken-start : tie.Need-part-taken-start Inv-loop μ-loop
+part-taken-start c = omega arith
+
+part-taken-end : tie.Need-part-taken-end Inv-loop μ-loop
+part-taken-end c = omega arith
+
+taken-requires : tie.Need-taken-requires Inv-loop μ-loop
+taken-requires c κs = search needs
+
+say-requires : tie.Need-say-requires Inv-loop μ-loop
+say-requires c κs = omega arith
+
+loop-less : tie.Need-loop-less Inv-loop μ-loop
+loop-less c = omega arith
+
+loop-again : tie.Need-loop-again Inv-loop μ-loop
+loop-again c = omega arith
+
+flush-requires : tie.Need-flush-requires Inv-loop μ-loop
+flush-requires c κs = search needs
+
+returns : tie.Need-returns Inv-loop μ-loop
+returns c = omega arith
+
+pub run-spec : {M : Type 1} → statement M
+run-spec =
+    tie.close
+    (tie.spec
+    Inv-loop
+    μ-loop
+    fresh-requires
+    loop-holds
+    slice-aggregate-line
+    line-requires
+    add-number
+    sub-taken
+    part-taken-start
+    part-taken-end
+    taken-requires
+    say-requires
+    loop-less
+    loop-again
+    flush-requires
+    returns)

@@ -1,0 +1,160 @@
+// Standard input, read in blocks and taken line by line.
+ghost use mathlib.Core.Path.{_≡_};
+ghost use Prim.Native.Nat.{_+_, _≤_};
+ghost use lib.ListN.{length};
+ghost use Rattle.jobs.specs.Spans.{Within};
+
+pub(crate) const BLOCK: usize = 65536;
+
+// A longer line is not readable, whatever it holds.
+pub(crate) const LONGEST: usize = 16383;
+
+// The block has `end` bytes of the input. The line is from..to, and what comes after it starts at `next`.
+pub(crate) struct Span {
+    pub(crate) over: bool,
+    pub(crate) from: usize,
+    pub(crate) to: usize,
+    pub(crate) next: usize,
+    pub(crate) end: usize,
+}
+
+// The first LF at or after `from`, or `end`.
+fn line_end(block: &[u8], from: usize, end: usize) -> usize
+    requires { ⌜ (from ≤ end) × (end ≤ length (now block)) ⌝ }
+    ensures { λ r. ⌜ (from ≤ r) × (r ≤ end) ⌝ }
+{
+    let mut i = from;
+    while i < end {
+        if block[i] == b'\n' {
+            return i;
+        }
+        i += 1;
+    }
+    end
+}
+
+// One read; answers how many bytes came, none at the end of the input.
+fn read_some(room: &mut [u8]) -> usize
+    ensures { λ r. ⌜ r ≤ length (now (room .entry)) ⌝ }
+{
+    let got = libc::read(0, room);
+    io::count(got, room)
+}
+
+// One read into the block from `end` on.
+fn filled(block: &mut [u8], end: usize) -> usize
+    requires { ⌜ end ≤ length (now block) ⌝ }
+    ensures { λ r. ⌜ end + r ≤ length (now (block .entry)) ⌝ }
+{
+    read_some(&mut block[end..])
+}
+
+// The bytes from `from` on go to the front.
+fn to_front(block: &mut [u8], from: usize, end: usize)
+    requires { ⌜ (from ≤ end) × (end ≤ length (now block)) ⌝ }
+{
+    if from == 0 {
+        return;
+    }
+    let mut i = from;
+    while i < end {
+        block[i - from] = block[i];
+        i += 1;
+    }
+}
+
+// The next line of a block whose bytes from..end were not yet taken.
+pub(crate) fn line(block: &mut [u8], from: usize, end: usize) -> Span
+    requires { ⌜ (from ≤ end) × (end ≤ 65536) × (length (now block) ≡ 65536) ⌝ }
+    ensures { λ r. ⌜ Within r ⌝ }
+{
+    let to = line_end(block, from, end);
+    if to < end {
+        return Span {
+            over: false,
+            from,
+            to,
+            next: to + 1,
+            end,
+        };
+    }
+    if LONGEST < end - from {
+        return rest_of_long(block);
+    }
+    to_front(block, from, end);
+    longer(block, end - from)
+}
+
+// The line whose first bytes are all that the block has; more is read until it ends or is too long.
+fn longer(block: &mut [u8], kept: usize) -> Span
+    requires { ⌜ (kept ≤ 16383) × (length (now block) ≡ 65536) ⌝ }
+    ensures { λ r. ⌜ Within r ⌝ }
+{
+    let mut end = kept;
+    while end <= LONGEST {
+        let got = filled(block, end);
+        if got == 0 {
+            return last(end);
+        }
+        let to = line_end(block, end, end + got);
+        end += got;
+        if to < end {
+            return Span {
+                over: false,
+                from: 0,
+                to,
+                next: to + 1,
+                end,
+            };
+        }
+    }
+    rest_of_long(block)
+}
+
+// The last line, with no LF, or none.
+fn last(end: usize) -> Span
+    requires { ⌜ end ≤ 16383 ⌝ }
+    ensures { λ r. ⌜ Within r ⌝ }
+{
+    Span {
+        over: end == 0,
+        from: 0,
+        to: end,
+        next: end,
+        end,
+    }
+}
+
+// The rest of a line that is too long is passed over.
+fn rest_of_long(block: &mut [u8]) -> Span
+    requires { ⌜ length (now block) ≡ 65536 ⌝ }
+    ensures { λ r. ⌜ Within r ⌝ }
+{
+    let mut turns = u64::MAX;
+    while 0 < turns {
+        let end = read_some(block);
+        if end == 0 {
+            return long(0, 0);
+        }
+        let to = line_end(block, 0, end);
+        if to < end {
+            return long(to + 1, end);
+        }
+        turns -= 1;
+    }
+    long(0, 0)
+}
+
+// As many bytes of the block as no line has stand for a line that is too long.
+fn long(next: usize, end: usize) -> Span
+    requires { ⌜ (next ≤ end) × (end ≤ 65536) ⌝ }
+    ensures { λ r. ⌜ Within r ⌝ }
+{
+    Span {
+        over: false,
+        from: 0,
+        to: LONGEST + 1,
+        next,
+        end,
+    }
+}

@@ -1,0 +1,219 @@
+// Names of a line: 16 digits, a point, the digits of the minor part, and a slash and a length where it is not that of the bytes given.
+use crate::hex;
+use crate::number;
+use crate::word;
+use kinds::Name;
+ghost use Prim.Native.Nat.{_+_, _*_, _≤_};
+ghost use lib.ListN.{length};
+
+// A word read as a name. Where it is none, `good` is false and the rest says nothing.
+pub(crate) struct Named {
+    pub(crate) good: bool,
+    pub(crate) name: Name,
+    pub(crate) next: usize,
+}
+
+// A major part, if its digits are digits.
+pub(crate) struct Major {
+    pub(crate) good: bool,
+    pub(crate) bytes: [u8; Name::MAJOR],
+}
+
+// The bytes of a minor part that a name keeps, if all of its digits are digits.
+pub(crate) struct Minor {
+    pub(crate) good: bool,
+    pub(crate) bytes: [u8; Name::LONGEST],
+}
+
+// A minor part's length, if it is one.
+struct Length {
+    good: bool,
+    value: u16,
+}
+
+const MOST_DIGITS: usize = 600;
+
+const HIGHEST_LENGTH: u32 = 300;
+
+// The major part at `at`.
+fn read_major(line: &[u8], at: usize) -> Major
+    requires { ⌜ at + 16 ≤ length (now line) ⌝ }
+{
+    let mut bytes = [0u8; Name::MAJOR];
+    let mut i: usize = 0;
+    while i < Name::MAJOR {
+        let b = hex::byte(line, at + 2 * i);
+        if 255 < b {
+            return Major { good: false, bytes };
+        }
+        bytes[i] = b as u8;
+        i += 1;
+    }
+    Major { good: true, bytes }
+}
+
+// The minor part whose `count` bytes are at `at`: of the first `most` those that have room. Missing ones are zero.
+fn read_minor(line: &[u8], at: usize, count: usize, most: usize) -> Minor
+    requires { ⌜ at + 2 * count ≤ length (now line) ⌝ }
+{
+    let mut bytes = [0u8; Name::LONGEST];
+    let kept = least(most, Name::LONGEST);
+    let mut i: usize = 0;
+    while i < count {
+        let b = hex::byte(line, at + 2 * i);
+        if 255 < b {
+            return Minor { good: false, bytes };
+        }
+        if i < kept {
+            bytes[i] = b as u8;
+        }
+        i += 1;
+    }
+    Minor { good: true, bytes }
+}
+
+fn least(a: usize, b: usize) -> usize
+    ensures { λ r. ⌜ r ≤ b ⌝ }
+{
+    if a < b { a } else { b }
+}
+
+// The slash of the word that ends at `end`, or its end.
+fn slash(line: &[u8], from: usize, end: usize) -> usize
+    requires { ⌜ (from ≤ end) × (end ≤ length (now line)) ⌝ }
+    ensures { λ r. ⌜ (from ≤ r) × (r ≤ end) ⌝ }
+{
+    let mut i = from;
+    while i < end {
+        if line[i] == b'/' {
+            return i;
+        }
+        i += 1;
+    }
+    end
+}
+
+// The length after the slash, or that of the bytes given.
+fn length_of(line: &[u8], given: usize, slash: usize, end: usize) -> Length
+    requires { ⌜ (given ≤ 300) × (slash ≤ end) × (end ≤ length (now line)) ⌝ }
+{
+    if slash == end {
+        return Length {
+            good: true,
+            value: given as u16,
+        };
+    }
+    let n = number::read(line, slash + 1);
+    if HIGHEST_LENGTH < n.value {
+        return Length {
+            good: false,
+            value: 0,
+        };
+    }
+    Length {
+        good: n.good,
+        value: n.value as u16,
+    }
+}
+
+fn none() -> Named {
+    Named {
+        good: false,
+        name: zero(),
+        next: 0,
+    }
+}
+
+// The name with no byte set.
+pub(crate) fn zero() -> Name {
+    Name {
+        major: [0u8; Name::MAJOR],
+        minor: [0u8; Name::LONGEST],
+        length: 0,
+    }
+}
+
+// The word at `at`.
+pub(crate) fn read(line: &[u8], at: usize) -> Named {
+    let end = word::end_of(line, at);
+    if end <= at {
+        return none();
+    }
+    if end - at < 17 {
+        return none();
+    }
+    let major = read_major(line, at);
+    let bytes = major.bytes;
+    if !major.good {
+        return none();
+    }
+    if line[at + 16] != b'.' {
+        return none();
+    }
+    minor_of(line, at + 17, end, bytes)
+}
+
+// The name with this major part, whose minor part is from..end.
+fn minor_of(line: &[u8], from: usize, end: usize, major: [u8; Name::MAJOR]) -> Named
+    requires { ⌜ (from ≤ end) × (end ≤ length (now line)) ⌝ }
+{
+    let slash = slash(line, from, end);
+    let digits = slash - from;
+    if MOST_DIGITS < digits {
+        return none();
+    }
+    if digits % 2 != 0 {
+        return none();
+    }
+    let length = length_of(line, digits / 2, slash, end);
+    if !length.good {
+        return none();
+    }
+    let minor = read_minor(line, from, digits / 2, length.value as usize);
+    let bytes = minor.bytes;
+    Named {
+        good: minor.good,
+        name: Name {
+            major,
+            minor: bytes,
+            length: length.value,
+        },
+        next: end + 1,
+    }
+}
+
+// The last word of a line, as a major part: 16 digits.
+pub(crate) fn major_word(line: &[u8], at: usize) -> Major {
+    if line.len() < at {
+        return no_major();
+    }
+    if line.len() - at != 16 {
+        return no_major();
+    }
+    read_major(line, at)
+}
+
+fn no_major() -> Major {
+    Major {
+        good: false,
+        bytes: [0u8; Name::MAJOR],
+    }
+}
+
+// The last word of a line, as a whole minor part: 88 digits.
+pub(crate) fn minor_word(line: &[u8], at: usize) -> Minor {
+    if line.len() < at {
+        return no_minor();
+    }
+    if line.len() - at != 88 {
+        return no_minor();
+    }
+    read_minor(line, at, Name::LONGEST, Name::LONGEST)
+}
+
+fn no_minor() -> Minor {
+    Minor {
+        good: false,
+        bytes: [0u8; Name::LONGEST],
+    }
+}

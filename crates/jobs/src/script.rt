@@ -1,0 +1,38 @@
+// The script on standard input, from its first line to its last.
+use crate::input;
+use crate::saying;
+use crate::text;
+use crate::turn;
+use services::Tables;
+ghost use mathlib.Core.Path.{_≡_};
+
+// Answers 0 at the end of the input. Before the first `fresh` the tables are those of a step over with code 0, which a fresh start
+// with dispatching above limit gives back.
+pub fn run() -> u8
+    ensures { λ r. ⌜ r ≡ 0 ⌝ }
+{
+    let mut block = [0u8; input::BLOCK];
+    let mut out = [0u8; text::BLOCK];
+    let start = Tables::fresh(0, 1);
+    let mut tables = start.tables;
+    let mut next: usize = 0;
+    let mut end: usize = 0;
+    let mut at: usize = 0;
+    let mut number: u64 = 0;
+    while number < u64::MAX {
+        let s = input::line(&mut block, next, end);
+        if s.over {
+            break;
+        }
+        number += 1;
+        next = s.next;
+        end = s.end;
+        let from = s.from;
+        let to = s.to;
+        let t = turn::taken(tables, &block[from..to]);
+        tables = t.tables;
+        at = saying::say(t, number, &mut out, at);
+    }
+    text::flush(&mut out, at);
+    0
+}

@@ -1,0 +1,178 @@
+// One line: what it asks for is done.
+use crate::beside;
+use crate::form;
+use crate::form::Form;
+use crate::listing::UNWRITTEN;
+use crate::name;
+use crate::outcome::Poked;
+use crate::poke_form;
+use crate::poke_form::PokeForm;
+use crate::poking;
+use kinds::EcbList;
+use kinds::NameList;
+use kinds::Request;
+use services::Answer;
+use services::Tables;
+ghost use Prim.Native.Nat.{_≤_};
+
+// What is to be written for a line.
+pub(crate) enum Said {
+    Nothing,
+    Unreadable,
+    NotHeld,
+    Ok,
+    Dump,
+    Answer { number: u16, besides: u32 },
+}
+
+// The tables as the line leaves them, and the codes area, which is `length` bytes of `codes`.
+pub(crate) struct Turn {
+    pub(crate) tables: Tables,
+    pub(crate) said: Said,
+    pub(crate) codes: [u8; 64],
+    pub(crate) length: usize,
+}
+
+// A line that asks for a longer one is not readable.
+const MOST_CODES: u32 = 64;
+
+pub(crate) fn taken(t: Tables, line: &[u8]) -> Turn
+    ensures { λ r. ⌜ r .length ≤ 64 ⌝ }
+{
+    match form::read(line) {
+        Form::Nothing => still(t, Said::Nothing),
+        Form::Unreadable => still(t, Said::Unreadable),
+        Form::Dump => still(t, Said::Dump),
+        Form::Fresh { limit, dispatching } => fresh(limit, dispatching),
+        Form::Plain(request) => plain(t, request),
+        Form::Enq { request, codes, at } => with_names(t, line, at, true, request, codes),
+        Form::Deq { request, codes, at } => with_names(t, line, at, false, request, codes),
+        Form::Wait { request, at } => with_ecbs(t, line, at, request),
+        Form::Poke { at } => poke(t, line, at),
+    }
+}
+
+// The tables stay.
+fn still(t: Tables, said: Said) -> Turn
+    ensures { λ r. ⌜ r .length ≤ 64 ⌝ }
+{
+    Turn {
+        tables: t,
+        said,
+        codes: [UNWRITTEN; 64],
+        length: 0,
+    }
+}
+
+fn fresh(limit: u16, dispatching: u16) -> Turn
+    ensures { λ r. ⌜ r .length ≤ 64 ⌝ }
+{
+    let a = Tables::fresh(limit, dispatching);
+    answered(a, [UNWRITTEN; 64], 0)
+}
+
+fn answered(a: Answer, codes: [u8; 64], length: usize) -> Turn
+    requires { ⌜ length ≤ 64 ⌝ }
+    ensures { λ r. ⌜ r .length ≤ 64 ⌝ }
+{
+    let tables = a.tables;
+    let reply = a.reply;
+    let said = Said::Answer {
+        number: reply.number(),
+        besides: reply.besides(),
+    };
+    Turn {
+        tables,
+        said,
+        codes,
+        length,
+    }
+}
+
+// The request, with a codes area of `length` bytes.
+fn served(t: Tables, request: Request, names: NameList, ecbs: EcbList, length: usize) -> Turn
+    requires { ⌜ length ≤ 64 ⌝ }
+    ensures { λ r. ⌜ r .length ≤ 64 ⌝ }
+{
+    let mut codes = [UNWRITTEN; 64];
+    let a = t.serve(request, names, ecbs, &mut codes[..length]);
+    answered(a, codes, length)
+}
+
+// A request with no list.
+fn plain(t: Tables, request: Request) -> Turn
+    ensures { λ r. ⌜ r .length ≤ 64 ⌝ }
+{
+    served(t, request, beside::no_names(), beside::no_ecbs(), 0)
+}
+
+// ENQ or DEQ, with the names from `at` on.
+fn with_names(t: Tables, line: &[u8], at: usize, enq: bool, request: Request, codes: u32) -> Turn
+    ensures { λ r. ⌜ r .length ≤ 64 ⌝ }
+{
+    if MOST_CODES < codes {
+        return still(t, Said::Unreadable);
+    }
+    let names = beside::read_names(line, at, enq);
+    if !names.good {
+        return still(t, Said::Unreadable);
+    }
+    let list = names.list;
+    served(t, request, list, beside::no_ecbs(), codes as usize)
+}
+
+// WAIT, with the ECBs from `at` on.
+fn with_ecbs(t: Tables, line: &[u8], at: usize, request: Request) -> Turn
+    ensures { λ r. ⌜ r .length ≤ 64 ⌝ }
+{
+    let ecbs = beside::read_ecbs(line, at);
+    if !ecbs.good {
+        return still(t, Said::Unreadable);
+    }
+    let list = ecbs.list;
+    served(t, request, beside::no_names(), list, 0)
+}
+
+fn poke(t: Tables, line: &[u8], at: usize) -> Turn
+    ensures { λ r. ⌜ r .length ≤ 64 ⌝ }
+{
+    match poke_form::read(line, at) {
+        PokeForm::Unreadable => still(t, Said::Unreadable),
+        PokeForm::Field(p) => left(poking::poked(t, p)),
+        PokeForm::Major { at, from } => major(t, line, at, from),
+        PokeForm::Minor { at, from } => minor(t, line, at, from),
+    }
+}
+
+fn major(t: Tables, line: &[u8], at: usize, from: usize) -> Turn
+    ensures { λ r. ⌜ r .length ≤ 64 ⌝ }
+{
+    let m = name::major_word(line, from);
+    if !m.good {
+        return still(t, Said::Unreadable);
+    }
+    let bytes = m.bytes;
+    left(poking::poked_major(t, at, bytes))
+}
+
+fn minor(t: Tables, line: &[u8], at: usize, from: usize) -> Turn
+    ensures { λ r. ⌜ r .length ≤ 64 ⌝ }
+{
+    let m = name::minor_word(line, from);
+    if !m.good {
+        return still(t, Said::Unreadable);
+    }
+    let bytes = m.bytes;
+    left(poking::poked_minor(t, at, bytes))
+}
+
+// What a poke leaves.
+fn left(k: Poked) -> Turn
+    ensures { λ r. ⌜ r .length ≤ 64 ⌝ }
+{
+    let tables = k.tables;
+    if !k.held {
+        return still(tables, Said::NotHeld);
+    }
+    still(tables, Said::Ok)
+}

@@ -23,7 +23,13 @@ pub(crate) fn fresh(text: &[u8]) -> Tables {
 }
 
 // The answer is told, and its tables come back for the next request. The codes area is of four bytes, each hex ee.
-pub(crate) fn beside(text: &[u8], t: Tables, request: Request, names: NameList, ecbs: EcbList) -> Tables
+pub(crate) fn beside(
+    text: &[u8],
+    t: Tables,
+    request: Request,
+    names: NameList,
+    ecbs: EcbList,
+) -> Tables
     ensures { λ r. ⌜ r ≡ servedOf t (record { request = request; names = namesIn names; ecbs = ecbsIn ecbs; area = 238 ∷ 238 ∷ 238 ∷ 238 ∷ [] }) .outcome .tables ⌝ }
 {
     let mut codes = [238u8; 4];

@@ -1,4 +1,5 @@
 pub mod Verdicts
 pub mod Trials
+pub mod Jumps
 pub mod Bodies
 pub mod Promises

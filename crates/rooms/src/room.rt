@@ -8,6 +8,7 @@ ghost use Prim.Native.Nat.{_≤_};
 ghost use Rattle.kinds.specs.Limits.{mostAreas};
 ghost use Rattle.rules.specs.Storage.{placedAt, lowest as lowestOf};
 ghost use Rattle.storage.specs.Stored.{live};
+ghost use Rattle.rooms.specs.Bars.{barOf, nextAt};
 
 // The area wanted, at an address.
 fn placed(want: Area, at: Address) -> Area
@@ -22,32 +23,59 @@ fn placed(want: Area, at: Address) -> Area
     }
 }
 
+// Below its bar x stands in the way: up to its end for its own holder, else to the end of its last page.
+fn bar(want: Area, x: Area) -> u64
+    ensures { λ r. ⌜ r ≡ barOf want x ⌝ }
+{
+    let page = Address::PAGE as u64;
+    let end = areas::end_of(x);
+    let past = (end + (page - 1)) / page * page;
+    if want.owner.0 != x.owner.0 {
+        return past;
+    }
+    if want.subpool != x.subpool {
+        return past;
+    }
+    end
+}
+
+// The first multiple of 8 not below a bar, or the region's end.
+fn next(bar: u64) -> u32
+    ensures { λ r. ⌜ r ≡ nextAt bar ⌝ }
+{
+    if Address::REGION as u64 <= bar {
+        return Address::REGION;
+    }
+    (bar as u32 + (Address::DOUBLEWORD - 1)) / Address::DOUBLEWORD * Address::DOUBLEWORD
+}
+
 // The lowest multiple of 8 at which the area wanted is permitted. The areas are read here, so that no table is copied for each address tried.
 pub fn lowest(s: Storage, want: Area) -> Place
     requires { ⌜ s .count ≤ mostAreas ⌝ }
     ensures { λ r. ⌜ r ≡ lowestOf (live s) want ⌝ }
 {
     let n = s.count;
-    let mut left: u32 = Address::REGION / Address::DOUBLEWORD;
     let mut at: u32 = 0;
-    while 0 < left {
+    while at < Address::REGION {
         let a = placed(want, Address(at));
         // What ends beyond the region here does so further up too.
         if (Address::REGION as u64) < areas::end_of(a) {
             return Place::Nowhere;
         }
+        let mut x = a;
         let mut free = true;
         let mut j = 0;
         while (j < n) & free {
-            let x = s.areas[j];
+            x = s.areas[j];
             free = areas::apart(a, x);
             j += 1;
         }
         if free {
             return Place::At(Address(at));
         }
-        left -= 1;
-        at += Address::DOUBLEWORD;
+        // What is not apart here is not apart below its bar.
+        let up_to = bar(want, x);
+        at = next(up_to);
     }
     Place::Nowhere
 }

@@ -11,7 +11,9 @@ pub use marks::no_marks;
 ghost use mathlib.Core.Path.{_≡_};
 ghost use mathlib.Core.List.{[]};
 ghost use Prim.Native.Nat.{_≤_};
-ghost use Rattle.kinds.specs.Limits.{mostEntries};
+ghost use lib.ListN.{replicate};
+ghost use Rattle.lists.specs.Lists.{sameBytes};
+ghost use Rattle.kinds.specs.Limits.{mostEntries, longestMinor, majorBytes};
 ghost use Rattle.rules.specs.Rings.{bars as barsOf};
 ghost use Rattle.rules.specs.SoundQueue.{sameRequest, entriesOnce, entryNamesGood, queueFits};
 ghost use Rattle.queue.specs.Queues.{entryOf, stored, live, isFine, isZero, allFine, restZero, packedb};
@@ -42,23 +44,47 @@ pub fn empty() -> Queue
     }
 }
 
-// The bytes after a minor part are zero.
+// The bytes after a minor part are zero. This loop and the next two have no exit, so that the compiler takes many bytes at once.
 fn is_fine(s: Slot) -> bool
     ensures { λ r. ⌜ r ≡ isFine s ⌝ }
 {
-    let n = s.name;
-    let b = n.minor;
-    let mut i = n.length as usize;
-    if Name::LONGEST < i {
+    let m = s.name;
+    let b = m.minor;
+    let n = m.length as usize;
+    if Name::LONGEST < n {
         return false;
     }
+    let mut fine = true;
+    let mut i = 0;
     while i < Name::LONGEST {
-        if b[i] != 0 {
-            return false;
-        }
+        fine = fine & ((i < n) | (0 == b[i]));
         i += 1;
     }
-    true
+    fine
+}
+
+fn major_zero(b: [u8; Name::MAJOR]) -> bool
+    ensures { λ r. ⌜ r ≡ sameBytes b (replicate majorBytes 0) ⌝ }
+{
+    let mut zero = true;
+    let mut i = 0;
+    while i < Name::MAJOR {
+        zero = zero & (b[i] == 0);
+        i += 1;
+    }
+    zero
+}
+
+fn minor_zero(b: [u8; Name::LONGEST]) -> bool
+    ensures { λ r. ⌜ r ≡ sameBytes b (replicate longestMinor 0) ⌝ }
+{
+    let mut zero = true;
+    let mut i = 0;
+    while i < Name::LONGEST {
+        zero = zero & (b[i] == 0);
+        i += 1;
+    }
+    zero
 }
 
 fn is_zero(s: Slot) -> bool
@@ -67,8 +93,6 @@ fn is_zero(s: Slot) -> bool
     let n = s.name;
     let a = n.major;
     let b = n.minor;
-    let no_major = [0u8; Name::MAJOR];
-    let no_minor = [0u8; Name::LONGEST];
     if s.task.0 != 0 {
         return false;
     }
@@ -78,10 +102,9 @@ fn is_zero(s: Slot) -> bool
     if n.length != 0 {
         return false;
     }
-    if !lists::same_bytes(&a, &no_major) {
-        return false;
-    }
-    lists::same_bytes(&b, &no_minor)
+    let x = major_zero(a);
+    let y = minor_zero(b);
+    x & y
 }
 
 fn all_fine(q: Queue) -> bool

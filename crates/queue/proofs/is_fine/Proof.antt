@@ -1,40 +1,39 @@
-use Prim.Native.Nat.{_≤_, _-_}
-use mathlib.Core.Path.{_≡_, refl, sym, _∙_}
+use Prim.Native.Nat.{ℕ, _≤_, _-_}
+use mathlib.Core.Path.{_≡_, sym, ap, _∙_}
+use mathlib.Core.Bool.{Bool, _&&_, _||_}
+use mathlib.Core.List.{List}
 use native.Mathlib.Omega.{arith}
 use borrow.Author.Needs.{needs}
-use borrow.Author.Tests.{eq-eqb, ne-eqb}
-use lib.ListN.{length, drop}
+use lib.Dec.{eqb, ltb}
+use lib.ListN.{length, drop, take, getD}
+use lib.Seq.{take-length}
 use Rattle.lists.specs.Lists.{every}
-use Rattle.lists.specs.Every.{rest-fails, rest-goes, rest-end}
-use Rattle.queue.specs.Queues.{isFine}
 use Rattle.lists.specs.Pick.{chosen}
-use lib.Dec.{eqb}
-use Rattle.queue.proofs.Tests.{fine-is}
 use Rattle.kinds.specs.Limits.{longestMinor}
+use Rattle.queue.specs.Queues.{isFine}
+use Rattle.queue.proofs.Tests.{fine-is}
+use Rattle.queue.proofs.Zeros.{nothing-fine, fine-step}
 use Rattle.queue.proofs.is_fine.Statement.{statement}
 use Rattle.queue.proofs.is_fine.Tie as tie
 
 abbrev Inv-loop : tie.InvT-loop
-Inv-loop b i₀ i = (i₀ ≤ i) × (i ≤ longestMinor) × (length b ≡ longestMinor) × (every (eqb 0) (drop i₀ b) ≡ every (eqb 0) (drop i b))
+Inv-loop b n fine₀ i₀ fine i = (i ≤ longestMinor) × (length b ≡ longestMinor) × (fine ≡ every (eqb 0) (drop n (take i b)))
 
 abbrev μ-loop : tie.MeasureT-loop
-μ-loop b i₀ i = longestMinor - i
+μ-loop b n fine₀ i₀ fine i = longestMinor - i
 
-cast-i : tie.Need-cast-i Inv-loop μ-loop
-cast-i c = omega arith
+cast-n : tie.Need-cast-n Inv-loop μ-loop
+cast-n c = omega arith
 
 returns : tie.Need-returns Inv-loop μ-loop
 unfolding isFine
 returns c = search chosen depth 10
 
 loop-holds : tie.Need-loop-holds Inv-loop μ-loop
-loop-holds c = (omega arith, omega arith, search needs, refl)
+loop-holds c = (omega arith, search needs, sym (nothing-fine (c .before .before .before .before .args .s .name .length)))
 
-array-read-if2 : tie.Need-array-read-if2 Inv-loop μ-loop
-array-read-if2 c = omega arith
-
-returns-2 : tie.Need-returns-2 Inv-loop μ-loop
-returns-2 c = fine-is ((c .before .before .before .before .before .before .before .args) .s) _ (omega arith) ((c .before .before .loop) .inv .2) ((c .before .before .loop) .inv .3 ∙ rest-fails (eqb 0) _ ((c .before .before .loop) .i) 0 (omega arith) (ne-eqb _ _ (λ e. (c .if2) .taken (sym e))))
+array-read-fine : tie.Need-array-read-fine Inv-loop μ-loop
+array-read-fine c = omega arith
 
 add-i : tie.Need-add-i Inv-loop μ-loop
 add-i c = omega arith
@@ -43,10 +42,19 @@ loop-less : tie.Need-loop-less Inv-loop μ-loop
 loop-less c = omega arith
 
 loop-again : tie.Need-loop-again Inv-loop μ-loop
-loop-again c = (omega arith, omega arith, omega arith, (c .before .before .loop) .inv .3 ∙ rest-goes (eqb 0) _ ((c .before .before .loop) .i) 0 (omega arith) (eq-eqb _ _ (sym ((c .if2) .left))))
+loop-again c =
+    let l = c .before .loop in
+    let s = c .before .before .before .before .before .before .args .s in
+    let t = ltb (l .i) (s .name .length) || eqb 0 (getD (s .name .minor) (l .i) 0) in
+    (omega arith, omega arith, ap (λ (f : Bool). f && t) (l .inv .2) ∙ sym (fine-step (s .name .minor) (s .name .length) (l .i) (omega arith)))
 
-returns-3 : tie.Need-returns-3 Inv-loop μ-loop
-returns-3 c = fine-is ((c .before .before .before .before .before .before .args) .s) _ (omega arith) ((c .before .loop) .inv .2) ((c .before .loop) .inv .3 ∙ rest-end (eqb 0) _ ((c .before .loop) .i) (omega arith))
+returns-2 : tie.Need-returns-2 Inv-loop μ-loop
+returns-2 c =
+    let l = c .before .loop in
+    let s = c .before .before .before .before .before .before .args .s in
+    let e : l .i ≡ length (s .name .minor) = omega arith in
+    let w : take (l .i) (s .name .minor) ≡ s .name .minor = ap (λ (k : ℕ). take k (s .name .minor)) e ∙ take-length (s .name .minor) in
+    fine-is s (l .fine) (omega arith) (l .inv .1) (sym (l .inv .2 ∙ ap (λ (m : List ℕ). every (eqb 0) (drop (s .name .length) m)) w))
 
 pub is-fine-spec : {M : Type 1} → statement M
 is-fine-spec =
@@ -54,12 +62,11 @@ is-fine-spec =
     (tie.spec
     Inv-loop
     μ-loop
-    cast-i
+    cast-n
     returns
     loop-holds
-    array-read-if2
-    returns-2
+    array-read-fine
     add-i
     loop-less
     loop-again
-    returns-3)
+    returns-2)

@@ -33,7 +33,7 @@ fn full_family() -> Family {
     f
 }
 
-// 128 exclusive entries, four of each task, whose names differ in their last byte only: every pair of names is compared to its end.
+// 128 exclusive entries, four of each task, whose names differ in the first byte of their major parts only, which is compared last.
 fn full_queue() -> Queue {
     let mut q = queue::empty();
     let mut i: usize = 0;
@@ -43,7 +43,7 @@ fn full_queue() -> Queue {
             minor: [66u8; Name::LONGEST],
             length: 44,
         };
-        name.minor[43] = i as u8;
+        name.major[0] = i as u8;
         let x = Slot {
             task: TaskNumber((i % 32 + 1) as u8),
             exclusive: true,

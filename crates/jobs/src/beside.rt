@@ -90,15 +90,15 @@ fn marked(line: &[u8], at: usize) -> Read {
     none()
 }
 
-fn asked(line: &[u8], at: usize, enq: bool) -> Read {
-    if enq {
+fn asked(line: &[u8], at: usize, marks: bool) -> Read {
+    if marks {
         return marked(line, at);
     }
     named(line, at, false)
 }
 
-// The words from `at` on, each with its mark where the request is an ENQ.
-pub(crate) fn read_names(line: &[u8], at: usize, enq: bool) -> Names {
+// The words from `at` on, each with its mark if it has one.
+pub(crate) fn read_names(line: &[u8], at: usize, marks: bool) -> Names {
     let mut list = no_names();
     let mut next = at;
     let mut count: u32 = 0;
@@ -106,7 +106,7 @@ pub(crate) fn read_names(line: &[u8], at: usize, enq: bool) -> Names {
         if MOST <= count {
             return Names { good: false, list };
         }
-        let a = asked(line, next, enq);
+        let a = asked(line, next, marks);
         if !a.good {
             return Names { good: false, list };
         }

@@ -1,5 +1,7 @@
 // What a line asks for, by its first word.
+use crate::fields;
 use crate::input;
+use crate::keys;
 use crate::number;
 use crate::plain;
 use crate::word;
@@ -8,7 +10,7 @@ use kinds::Request;
 use kinds::Ret;
 use kinds::TaskNumber;
 
-// A list, and what a poke says, is left to be read from `at` on.
+// A list, and what a poke says, is left to be read from `at` on. In an ENQ each name has a mark.
 pub(crate) enum Form {
     Nothing,
     Unreadable,
@@ -17,17 +19,13 @@ pub(crate) enum Form {
         dispatching: u16,
     },
     Plain(Request),
-    Enq {
+    Names {
         request: Request,
+        marks: bool,
         codes: u32,
         at: usize,
     },
-    Deq {
-        request: Request,
-        codes: u32,
-        at: usize,
-    },
-    Wait {
+    Ecbs {
         request: Request,
         at: usize,
     },
@@ -48,25 +46,16 @@ pub(crate) fn read(line: &[u8]) -> Form {
         return Form::Nothing;
     }
     let at = word::after(line, 0);
-    if word::is(line, 0, b"enq") {
-        return enq(line, at);
+    let key = word::key(line, 0);
+    match key {
+        keys::ENQ => with_names(line, at, true),
+        keys::DEQ => with_names(line, at, false),
+        keys::WAIT => with_ecbs(line, at),
+        keys::POKE => Form::Poke { at },
+        keys::FRESH => fresh(line, at),
+        keys::DUMP => alone(line, at, Form::Dump),
+        _ => plain::read(line, at, key),
     }
-    if word::is(line, 0, b"deq") {
-        return deq(line, at);
-    }
-    if word::is(line, 0, b"wait") {
-        return wait(line, at);
-    }
-    if word::is(line, 0, b"poke") {
-        return Form::Poke { at };
-    }
-    if word::is(line, 0, b"fresh") {
-        return fresh(line, at);
-    }
-    if word::is(line, 0, b"dump") {
-        return alone(line, at, Form::Dump);
-    }
-    plain::read(line, at)
 }
 
 // The form, if no word is left.
@@ -78,94 +67,87 @@ pub(crate) fn alone(line: &[u8], at: usize, form: Form) -> Form {
     }
 }
 
-// The request, if no word is left.
-pub(crate) fn request(line: &[u8], at: usize, request: Request) -> Form {
-    alone(line, at, Form::Plain(request))
-}
-
 fn fresh(line: &[u8], at: usize) -> Form {
-    let n = number::read_all(line, at, 2);
+    let n = number::read(line, at);
+    let m = number::read(line, n.next);
     if !n.good {
         return Form::Unreadable;
     }
-    let limit = number::half(n.values[0]);
-    let dispatching = number::half(n.values[1]);
-    alone(line, n.next, Form::Fresh { limit, dispatching })
-}
-
-fn wait(line: &[u8], at: usize) -> Form {
-    let n = number::read_all(line, at, 2);
-    if !n.good {
+    if !m.good {
         return Form::Unreadable;
     }
-    let caller = TaskNumber(number::byte(n.values[0]));
-    let count = n.values[1];
-    Form::Wait {
-        request: Request::Wait { caller, count },
-        at: n.next,
+    let limit = number::half(n.value);
+    let dispatching = number::half(m.value);
+    alone(line, m.next, Form::Fresh { limit, dispatching })
+}
+
+// WAIT: the ECBs stand after the count.
+fn with_ecbs(line: &[u8], at: usize) -> Form {
+    let f = fields::read(line, at, 1);
+    if !f.good {
+        return Form::Unreadable;
+    }
+    let request = Request::Wait {
+        caller: f.caller,
+        count: f.values[0],
+    };
+    Form::Ecbs {
+        request,
+        at: f.next,
     }
 }
 
-fn enq(line: &[u8], at: usize) -> Form {
+// ENQ and DEQ: the RET kind, the length of the codes area, and the names.
+fn with_names(line: &[u8], at: usize, marks: bool) -> Form {
     let n = number::read(line, at);
     if !n.good {
         return Form::Unreadable;
     }
-    let caller = TaskNumber(number::byte(n.value));
-    if word::is(line, n.next, b"none") {
-        return enq_with(line, n.next, caller, Ret::None);
-    }
-    if word::is(line, n.next, b"test") {
-        return enq_with(line, n.next, caller, Ret::Test);
-    }
-    if word::is(line, n.next, b"use") {
-        return enq_with(line, n.next, caller, Ret::Use);
-    }
-    if word::is(line, n.next, b"have") {
-        return enq_with(line, n.next, caller, Ret::Have);
-    }
-    if word::is(line, n.next, b"chng") {
-        return enq_with(line, n.next, caller, Ret::Chng);
-    }
-    Form::Unreadable
-}
-
-// The codes area's length stands after the RET kind at `at`.
-fn enq_with(line: &[u8], at: usize, caller: TaskNumber, ret: Ret) -> Form {
-    let n = number::read(line, word::after(line, at));
-    if !n.good {
+    let m = number::read(line, word::after(line, n.next));
+    if !m.good {
         return Form::Unreadable;
     }
-    Form::Enq {
+    let caller = TaskNumber(number::byte(n.value));
+    let key = word::key(line, n.next);
+    if marks {
+        return enq(caller, key, m.value, m.next);
+    }
+    deq(caller, key, m.value, m.next)
+}
+
+fn enq(caller: TaskNumber, key: u64, codes: u32, at: usize) -> Form {
+    match key {
+        keys::NONE => enq_with(caller, Ret::None, codes, at),
+        keys::TEST => enq_with(caller, Ret::Test, codes, at),
+        keys::USE => enq_with(caller, Ret::Use, codes, at),
+        keys::HAVE => enq_with(caller, Ret::Have, codes, at),
+        keys::CHNG => enq_with(caller, Ret::Chng, codes, at),
+        _ => Form::Unreadable,
+    }
+}
+
+fn enq_with(caller: TaskNumber, ret: Ret, codes: u32, at: usize) -> Form {
+    Form::Names {
         request: Request::Enq { caller, ret },
-        codes: n.value,
-        at: n.next,
+        marks: true,
+        codes,
+        at,
     }
 }
 
-fn deq(line: &[u8], at: usize) -> Form {
-    let n = number::read(line, at);
-    if !n.good {
-        return Form::Unreadable;
+fn deq(caller: TaskNumber, key: u64, codes: u32, at: usize) -> Form {
+    match key {
+        keys::NONE => deq_with(caller, DeqRet::None, codes, at),
+        keys::HAVE => deq_with(caller, DeqRet::Have, codes, at),
+        _ => Form::Unreadable,
     }
-    let caller = TaskNumber(number::byte(n.value));
-    if word::is(line, n.next, b"none") {
-        return deq_with(line, n.next, caller, DeqRet::None);
-    }
-    if word::is(line, n.next, b"have") {
-        return deq_with(line, n.next, caller, DeqRet::Have);
-    }
-    Form::Unreadable
 }
 
-fn deq_with(line: &[u8], at: usize, caller: TaskNumber, ret: DeqRet) -> Form {
-    let n = number::read(line, word::after(line, at));
-    if !n.good {
-        return Form::Unreadable;
-    }
-    Form::Deq {
+fn deq_with(caller: TaskNumber, ret: DeqRet, codes: u32, at: usize) -> Form {
+    Form::Names {
         request: Request::Deq { caller, ret },
-        codes: n.value,
-        at: n.next,
+        marks: false,
+        codes,
+        at,
     }
 }

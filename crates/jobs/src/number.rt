@@ -9,13 +9,6 @@ pub(crate) struct Number {
     pub(crate) next: usize,
 }
 
-// As many words read as numbers as were asked for.
-pub(crate) struct Numbers {
-    pub(crate) good: bool,
-    pub(crate) values: [u32; 4],
-    pub(crate) next: usize,
-}
-
 const MOST_DIGITS: usize = 10;
 
 const HIGHEST: u64 = 4294967295;
@@ -67,33 +60,6 @@ pub(crate) fn read(line: &[u8], at: usize) -> Number {
         good: true,
         value: value as u32,
         next: end + 1,
-    }
-}
-
-// The `count` words from `at` on, at most four.
-pub(crate) fn read_all(line: &[u8], at: usize, count: usize) -> Numbers
-    requires { ⌜ count ≤ 4 ⌝ }
-{
-    let mut values = [0u32; 4];
-    let mut next = at;
-    let mut i: usize = 0;
-    while i < count {
-        let n = read(line, next);
-        if !n.good {
-            return Numbers {
-                good: false,
-                values,
-                next,
-            };
-        }
-        values[i] = n.value;
-        next = n.next;
-        i += 1;
-    }
-    Numbers {
-        good: true,
-        values,
-        next,
     }
 }
 

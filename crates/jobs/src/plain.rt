@@ -1,7 +1,10 @@
 // Requests with no list.
 use crate::dpmod;
+use crate::fields;
+use crate::fields::Fields;
 use crate::form;
 use crate::form::Form;
+use crate::keys;
 use crate::number;
 use crate::word;
 use kinds::Address;
@@ -9,205 +12,156 @@ use kinds::EcbNumber;
 use kinds::MaybeEcb;
 use kinds::Request;
 use kinds::TaskNumber;
+ghost use Prim.Native.Nat.{_≤_};
 
-// The line whose first word is no other; the second is at `at`.
-pub(crate) fn read(line: &[u8], at: usize) -> Form {
-    if word::is(line, 0, b"dispatch") {
-        return form::request(line, at, Request::Dispatch);
+// An ECB or `-`. Where it is neither, `good` is false and the rest says nothing.
+struct Attached {
+    good: bool,
+    ecb: MaybeEcb,
+    next: usize,
+}
+
+// The line that begins with this word; the next word is at `at`.
+pub(crate) fn read(line: &[u8], at: usize, key: u64) -> Form {
+    match key {
+        keys::DISPATCH => form::alone(line, at, Form::Plain(Request::Dispatch)),
+        keys::ATTACH => attach(line, at),
+        keys::ABEND => abend(line, at),
+        keys::GETMAIN => getmain(line, at),
+        _ => of_numbers(line, at, key),
     }
-    if word::is(line, 0, b"post") {
-        return post(line, at);
+}
+
+// A request of CALLER and numbers alone.
+fn of_numbers(line: &[u8], at: usize, key: u64) -> Form {
+    let f = fields::read(line, at, count_of(key));
+    if !f.good {
+        return Form::Unreadable;
     }
-    if word::is(line, 0, b"clear") {
-        return clear(line, at);
+    form::alone(line, f.next, numbered(key, f))
+}
+
+// How many numbers stand after CALLER.
+fn count_of(key: u64) -> usize
+    ensures { λ r. ⌜ r ≤ 3 ⌝ }
+{
+    match key {
+        keys::POST => 2,
+        keys::FREEMAIN => 3,
+        _ => 1,
     }
-    if word::is(line, 0, b"getmain") {
-        return getmain(line, at);
+}
+
+fn numbered(key: u64, f: Fields) -> Form {
+    let caller = f.caller;
+    let first = f.values[0];
+    let second = f.values[1];
+    let third = f.values[2];
+    match key {
+        keys::POST => Form::Plain(Request::Post {
+            caller,
+            ecb: EcbNumber(number::byte(first)),
+            code: second,
+        }),
+        keys::CLEAR => Form::Plain(Request::Clear {
+            caller,
+            ecb: EcbNumber(number::byte(first)),
+        }),
+        keys::FREEMAIN => Form::Plain(Request::Freemain {
+            caller,
+            address: Address(first),
+            length: second,
+            subpool: number::byte(third),
+        }),
+        keys::DETACH => Form::Plain(Request::Detach {
+            caller,
+            task: TaskNumber(number::byte(first)),
+        }),
+        keys::END => Form::Plain(Request::End {
+            caller,
+            code: number::half(first),
+        }),
+        _ => Form::Unreadable,
     }
-    if word::is(line, 0, b"freemain") {
-        return freemain(line, at);
-    }
-    if word::is(line, 0, b"attach") {
-        return attach(line, at);
-    }
-    if word::is(line, 0, b"detach") {
-        return detach(line, at);
-    }
-    if word::is(line, 0, b"end") {
-        return end(line, at);
-    }
-    if word::is(line, 0, b"abend") {
-        return abend(line, at);
-    }
-    Form::Unreadable
 }
 
 fn attach(line: &[u8], at: usize) -> Form {
-    let n = number::read_all(line, at, 2);
-    if !n.good {
+    let f = fields::read(line, at, 1);
+    let d = dpmod::read(line, f.next);
+    let e = ecb_or_none(line, d.next);
+    if !(f.good & d.good & e.good) {
         return Form::Unreadable;
     }
-    let d = dpmod::read(line, n.next);
-    if !d.good {
-        return Form::Unreadable;
-    }
-    let caller = TaskNumber(number::byte(n.values[0]));
-    let lpmod = number::half(n.values[1]);
-    let dpmod = d.value;
-    if word::is(line, d.next, b"-") {
-        let next = word::after(line, d.next);
-        return form::request(
-            line,
-            next,
-            Request::Attach {
-                caller,
-                lpmod,
-                dpmod,
-                ecb: MaybeEcb::NoEcb,
-            },
-        );
-    }
-    let e = number::read(line, d.next);
-    if !e.good {
-        return Form::Unreadable;
-    }
-    let ecb = MaybeEcb::Named(EcbNumber(number::byte(e.value)));
-    form::request(
-        line,
-        e.next,
-        Request::Attach {
-            caller,
-            lpmod,
-            dpmod,
-            ecb,
-        },
-    )
+    let ecb = e.ecb;
+    let request = Request::Attach {
+        caller: f.caller,
+        lpmod: number::half(f.values[0]),
+        dpmod: d.value,
+        ecb,
+    };
+    form::alone(line, e.next, Form::Plain(request))
 }
 
-fn detach(line: &[u8], at: usize) -> Form {
-    let n = number::read_all(line, at, 2);
-    if !n.good {
-        return Form::Unreadable;
+fn ecb_or_none(line: &[u8], at: usize) -> Attached {
+    if word::key(line, at) == keys::MINUS {
+        return Attached {
+            good: true,
+            ecb: MaybeEcb::NoEcb,
+            next: word::after(line, at),
+        };
     }
-    let caller = TaskNumber(number::byte(n.values[0]));
-    let task = TaskNumber(number::byte(n.values[1]));
-    form::request(line, n.next, Request::Detach { caller, task })
+    let n = number::read(line, at);
+    Attached {
+        good: n.good,
+        ecb: MaybeEcb::Named(EcbNumber(number::byte(n.value))),
+        next: n.next,
+    }
 }
 
-fn end(line: &[u8], at: usize) -> Form {
-    let n = number::read_all(line, at, 2);
-    if !n.good {
-        return Form::Unreadable;
-    }
-    let caller = TaskNumber(number::byte(n.values[0]));
-    let code = number::half(n.values[1]);
-    form::request(line, n.next, Request::End { caller, code })
-}
-
+// `step` may end the line.
 fn abend(line: &[u8], at: usize) -> Form {
-    let n = number::read_all(line, at, 2);
-    if !n.good {
+    let f = fields::read(line, at, 1);
+    if !f.good {
         return Form::Unreadable;
     }
-    let caller = TaskNumber(number::byte(n.values[0]));
-    let code = number::half(n.values[1]);
-    if word::is(line, n.next, b"step") {
-        let next = word::after(line, n.next);
-        return form::request(
-            line,
-            next,
-            Request::Abend {
-                caller,
-                code,
-                step: true,
-            },
-        );
-    }
-    form::request(
-        line,
-        n.next,
-        Request::Abend {
+    let caller = f.caller;
+    let code = number::half(f.values[0]);
+    if word::none_at(line, f.next) {
+        return Form::Plain(Request::Abend {
             caller,
             code,
             step: false,
-        },
-    )
-}
-
-fn post(line: &[u8], at: usize) -> Form {
-    let n = number::read_all(line, at, 3);
-    if !n.good {
-        return Form::Unreadable;
+        });
     }
-    let caller = TaskNumber(number::byte(n.values[0]));
-    let ecb = EcbNumber(number::byte(n.values[1]));
-    let code = n.values[2];
-    form::request(line, n.next, Request::Post { caller, ecb, code })
-}
-
-fn clear(line: &[u8], at: usize) -> Form {
-    let n = number::read_all(line, at, 2);
-    if !n.good {
-        return Form::Unreadable;
-    }
-    let caller = TaskNumber(number::byte(n.values[0]));
-    let ecb = EcbNumber(number::byte(n.values[1]));
-    form::request(line, n.next, Request::Clear { caller, ecb })
-}
-
-fn getmain(line: &[u8], at: usize) -> Form {
-    let n = number::read_all(line, at, 3);
-    if !n.good {
-        return Form::Unreadable;
-    }
-    let caller = TaskNumber(number::byte(n.values[0]));
-    let length = n.values[1];
-    let subpool = number::byte(n.values[2]);
-    let next = word::after(line, n.next);
-    if word::is(line, n.next, b"cond") {
-        return form::request(
-            line,
-            next,
-            Request::Getmain {
-                caller,
-                length,
-                subpool,
-                conditional: true,
-            },
-        );
-    }
-    if word::is(line, n.next, b"uncond") {
-        return form::request(
-            line,
-            next,
-            Request::Getmain {
-                caller,
-                length,
-                subpool,
-                conditional: false,
-            },
-        );
+    if word::last_key(line, f.next) == keys::STEP {
+        return Form::Plain(Request::Abend {
+            caller,
+            code,
+            step: true,
+        });
     }
     Form::Unreadable
 }
 
-fn freemain(line: &[u8], at: usize) -> Form {
-    let n = number::read_all(line, at, 4);
-    if !n.good {
+// `cond` or `uncond` ends the line.
+fn getmain(line: &[u8], at: usize) -> Form {
+    let f = fields::read(line, at, 2);
+    if !f.good {
         return Form::Unreadable;
     }
-    let caller = TaskNumber(number::byte(n.values[0]));
-    let address = Address(n.values[1]);
-    let length = n.values[2];
-    let subpool = number::byte(n.values[3]);
-    form::request(
-        line,
-        n.next,
-        Request::Freemain {
-            caller,
-            address,
-            length,
-            subpool,
-        },
-    )
+    let key = word::last_key(line, f.next);
+    match key {
+        keys::COND => getmain_of(f, true),
+        keys::UNCOND => getmain_of(f, false),
+        _ => Form::Unreadable,
+    }
+}
+
+fn getmain_of(f: Fields, conditional: bool) -> Form {
+    Form::Plain(Request::Getmain {
+        caller: f.caller,
+        length: f.values[0],
+        subpool: number::byte(f.values[1]),
+        conditional,
+    })
 }

@@ -1,4 +1,5 @@
 // What a line that pokes asks for: the words after `poke`.
+use crate::keys;
 use crate::number;
 use crate::number::Number;
 use crate::poke::AreaField;
@@ -22,206 +23,165 @@ pub(crate) enum PokeForm {
 }
 
 pub(crate) fn read(line: &[u8], at: usize) -> PokeForm {
+    let table = word::key(line, at);
     let next = word::after(line, at);
-    if word::is(line, at, b"step") {
+    if table == keys::STEP {
         return step(line, next);
     }
-    if word::is(line, at, b"task") {
-        return task(line, next);
+    let n = number::read(line, next);
+    if !n.good {
+        return PokeForm::Unreadable;
     }
-    if word::is(line, at, b"entry") {
-        return entry(line, next);
-    }
-    if word::is(line, at, b"ecb") {
-        return ecb(line, next);
-    }
-    if word::is(line, at, b"area") {
-        return area(line, next);
-    }
-    PokeForm::Unreadable
+    of_place(line, n.next, table, n.value)
 }
 
-// The number of a place, below `places`.
-fn place(line: &[u8], at: usize, places: usize) -> Number {
+// The field of a place, and then its value.
+fn of_place(line: &[u8], at: usize, table: u64, place: u32) -> PokeForm {
+    let field = word::key(line, at);
+    let from = word::after(line, at);
+    if table == keys::ENTRY {
+        if field == keys::MAJOR {
+            return major(place, from);
+        }
+        if field == keys::MINOR {
+            return minor(place, from);
+        }
+    }
+    let v = last_number(line, from);
+    if !v.good {
+        return PokeForm::Unreadable;
+    }
+    of_table(table, place as usize, field, v.value)
+}
+
+fn of_table(table: u64, place: usize, field: u64, value: u32) -> PokeForm {
+    match table {
+        keys::TASK => task(place, field, value),
+        keys::ENTRY => entry(place, field, value),
+        keys::ECB => ecb(place, field, value),
+        keys::AREA => area(place, field, value),
+        _ => PokeForm::Unreadable,
+    }
+}
+
+// A number that ends the line.
+fn last_number(line: &[u8], at: usize) -> Number {
     let mut n = number::read(line, at);
-    if places as u64 <= n.value as u64 {
-        n.good = false;
-    }
-    n
-}
-
-// The value after the field at `at`, which ends the line.
-fn value(line: &[u8], at: usize) -> Number {
-    let mut n = number::read(line, word::after(line, at));
     if !word::none_at(line, n.next) {
         n.good = false;
     }
     n
 }
 
+fn major(place: u32, from: usize) -> PokeForm {
+    if (place as usize) < Slot::PLACES {
+        return PokeForm::Major {
+            at: place as usize,
+            from,
+        };
+    }
+    PokeForm::Unreadable
+}
+
+fn minor(place: u32, from: usize) -> PokeForm {
+    if (place as usize) < Slot::PLACES {
+        return PokeForm::Minor {
+            at: place as usize,
+            from,
+        };
+    }
+    PokeForm::Unreadable
+}
+
 fn step(line: &[u8], at: usize) -> PokeForm {
-    let v = value(line, at);
+    let v = last_number(line, word::after(line, at));
     if !v.good {
         return PokeForm::Unreadable;
     }
+    let key = word::key(line, at);
     let value = v.value;
-    if word::is(line, at, b"over") {
-        return PokeForm::Field(Poke::Step {
+    match key {
+        keys::OVER => PokeForm::Field(Poke::Step {
             field: StepField::Over,
             value,
-        });
-    }
-    if word::is(line, at, b"code") {
-        return PokeForm::Field(Poke::Step {
+        }),
+        keys::CODE => PokeForm::Field(Poke::Step {
             field: StepField::Code,
             value,
-        });
+        }),
+        _ => PokeForm::Unreadable,
     }
-    PokeForm::Unreadable
 }
 
-fn task(line: &[u8], at: usize) -> PokeForm {
-    let n = place(line, at, TaskNumber::PLACES + 1);
-    if !n.good {
+fn task(n: usize, field: u64, value: u32) -> PokeForm {
+    if n == 0 {
         return PokeForm::Unreadable;
     }
-    if n.value == 0 {
+    if TaskNumber::PLACES < n {
         return PokeForm::Unreadable;
     }
-    let v = value(line, n.next);
-    if !v.good {
-        return PokeForm::Unreadable;
+    let at = n - 1;
+    match field {
+        keys::STATE => of_task(at, TaskField::State, value),
+        keys::MOTHER => of_task(at, TaskField::Mother, value),
+        keys::LIMIT => of_task(at, TaskField::Limit, value),
+        keys::DISP => of_task(at, TaskField::Disp, value),
+        keys::HASECB => of_task(at, TaskField::HasEcb, value),
+        keys::ECB => of_task(at, TaskField::Ecb, value),
+        keys::RWAIT => of_task(at, TaskField::Rwait, value),
+        keys::NEED => of_task(at, TaskField::Need, value),
+        _ => PokeForm::Unreadable,
     }
-    task_field(line, n.next, (n.value - 1) as usize, v.value)
-}
-
-fn task_field(line: &[u8], word: usize, at: usize, value: u32) -> PokeForm {
-    if word::is(line, word, b"state") {
-        return of_task(at, TaskField::State, value);
-    }
-    if word::is(line, word, b"mother") {
-        return of_task(at, TaskField::Mother, value);
-    }
-    if word::is(line, word, b"limit") {
-        return of_task(at, TaskField::Limit, value);
-    }
-    if word::is(line, word, b"disp") {
-        return of_task(at, TaskField::Disp, value);
-    }
-    if word::is(line, word, b"hasecb") {
-        return of_task(at, TaskField::HasEcb, value);
-    }
-    if word::is(line, word, b"ecb") {
-        return of_task(at, TaskField::Ecb, value);
-    }
-    if word::is(line, word, b"rwait") {
-        return of_task(at, TaskField::Rwait, value);
-    }
-    if word::is(line, word, b"need") {
-        return of_task(at, TaskField::Need, value);
-    }
-    PokeForm::Unreadable
 }
 
 fn of_task(at: usize, field: TaskField, value: u32) -> PokeForm {
     PokeForm::Field(Poke::Task { at, field, value })
 }
 
-fn entry(line: &[u8], at: usize) -> PokeForm {
-    let n = place(line, at, Slot::PLACES);
-    if !n.good {
+fn entry(at: usize, field: u64, value: u32) -> PokeForm {
+    if Slot::PLACES <= at {
         return PokeForm::Unreadable;
     }
-    let place = n.value as usize;
-    let from = word::after(line, n.next);
-    if word::is(line, n.next, b"major") {
-        return PokeForm::Major { at: place, from };
+    match field {
+        keys::TASK => of_entry(at, EntryField::Task, value),
+        keys::EXCL => of_entry(at, EntryField::Excl, value),
+        keys::LENGTH => of_entry(at, EntryField::Length, value),
+        _ => PokeForm::Unreadable,
     }
-    if word::is(line, n.next, b"minor") {
-        return PokeForm::Minor { at: place, from };
-    }
-    let v = value(line, n.next);
-    if !v.good {
-        return PokeForm::Unreadable;
-    }
-    entry_field(line, n.next, place, v.value)
-}
-
-fn entry_field(line: &[u8], word: usize, at: usize, value: u32) -> PokeForm {
-    if word::is(line, word, b"task") {
-        return of_entry(at, EntryField::Task, value);
-    }
-    if word::is(line, word, b"excl") {
-        return of_entry(at, EntryField::Excl, value);
-    }
-    if word::is(line, word, b"length") {
-        return of_entry(at, EntryField::Length, value);
-    }
-    PokeForm::Unreadable
 }
 
 fn of_entry(at: usize, field: EntryField, value: u32) -> PokeForm {
     PokeForm::Field(Poke::Entry { at, field, value })
 }
 
-fn ecb(line: &[u8], at: usize) -> PokeForm {
-    let n = place(line, at, EcbNumber::PLACES);
-    if !n.good {
+fn ecb(at: usize, field: u64, value: u32) -> PokeForm {
+    if EcbNumber::PLACES <= at {
         return PokeForm::Unreadable;
     }
-    let v = value(line, n.next);
-    if !v.good {
-        return PokeForm::Unreadable;
+    match field {
+        keys::WAIT => of_ecb(at, EcbField::Wait, value),
+        keys::COMPLETE => of_ecb(at, EcbField::Complete, value),
+        keys::CODE => of_ecb(at, EcbField::Code, value),
+        keys::WAITER => of_ecb(at, EcbField::Waiter, value),
+        _ => PokeForm::Unreadable,
     }
-    ecb_field(line, n.next, n.value as usize, v.value)
-}
-
-fn ecb_field(line: &[u8], word: usize, at: usize, value: u32) -> PokeForm {
-    if word::is(line, word, b"wait") {
-        return of_ecb(at, EcbField::Wait, value);
-    }
-    if word::is(line, word, b"complete") {
-        return of_ecb(at, EcbField::Complete, value);
-    }
-    if word::is(line, word, b"code") {
-        return of_ecb(at, EcbField::Code, value);
-    }
-    if word::is(line, word, b"waiter") {
-        return of_ecb(at, EcbField::Waiter, value);
-    }
-    PokeForm::Unreadable
 }
 
 fn of_ecb(at: usize, field: EcbField, value: u32) -> PokeForm {
     PokeForm::Field(Poke::Ecb { at, field, value })
 }
 
-fn area(line: &[u8], at: usize) -> PokeForm {
-    let n = place(line, at, Area::PLACES);
-    if !n.good {
+fn area(at: usize, field: u64, value: u32) -> PokeForm {
+    if Area::PLACES <= at {
         return PokeForm::Unreadable;
     }
-    let v = value(line, n.next);
-    if !v.good {
-        return PokeForm::Unreadable;
+    match field {
+        keys::ADDRESS => of_area(at, AreaField::Address, value),
+        keys::LENGTH => of_area(at, AreaField::Length, value),
+        keys::SUBPOOL => of_area(at, AreaField::Subpool, value),
+        keys::OWNER => of_area(at, AreaField::Owner, value),
+        _ => PokeForm::Unreadable,
     }
-    area_field(line, n.next, n.value as usize, v.value)
-}
-
-fn area_field(line: &[u8], word: usize, at: usize, value: u32) -> PokeForm {
-    if word::is(line, word, b"address") {
-        return of_area(at, AreaField::Address, value);
-    }
-    if word::is(line, word, b"length") {
-        return of_area(at, AreaField::Length, value);
-    }
-    if word::is(line, word, b"subpool") {
-        return of_area(at, AreaField::Subpool, value);
-    }
-    if word::is(line, word, b"owner") {
-        return of_area(at, AreaField::Owner, value);
-    }
-    PokeForm::Unreadable
 }
 
 fn of_area(at: usize, field: AreaField, value: u32) -> PokeForm {

@@ -45,9 +45,13 @@ pub(crate) fn taken(t: Tables, line: &[u8]) -> Turn
         Form::Dump => still(t, Said::Dump),
         Form::Fresh { limit, dispatching } => fresh(limit, dispatching),
         Form::Plain(request) => plain(t, request),
-        Form::Enq { request, codes, at } => with_names(t, line, at, true, request, codes),
-        Form::Deq { request, codes, at } => with_names(t, line, at, false, request, codes),
-        Form::Wait { request, at } => with_ecbs(t, line, at, request),
+        Form::Names {
+            request,
+            marks,
+            codes,
+            at,
+        } => with_names(t, line, at, marks, request, codes),
+        Form::Ecbs { request, at } => with_ecbs(t, line, at, request),
         Form::Poke { at } => poke(t, line, at),
     }
 }
@@ -107,13 +111,13 @@ fn plain(t: Tables, request: Request) -> Turn
 }
 
 // ENQ or DEQ, with the names from `at` on.
-fn with_names(t: Tables, line: &[u8], at: usize, enq: bool, request: Request, codes: u32) -> Turn
+fn with_names(t: Tables, line: &[u8], at: usize, marks: bool, request: Request, codes: u32) -> Turn
     ensures { λ r. ⌜ r .length ≤ 64 ⌝ }
 {
     if MOST_CODES < codes {
         return still(t, Said::Unreadable);
     }
-    let names = beside::read_names(line, at, enq);
+    let names = beside::read_names(line, at, marks);
     if !names.good {
         return still(t, Said::Unreadable);
     }

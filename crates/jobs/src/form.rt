@@ -12,7 +12,6 @@ use kinds::TaskNumber;
 
 // A list, and what a poke says, is left to be read from `at` on. In an ENQ each name has a mark.
 pub(crate) enum Form {
-    Nothing,
     Unreadable,
     Fresh {
         limit: u16,
@@ -35,15 +34,20 @@ pub(crate) enum Form {
     },
 }
 
+// An empty line, or a remark, asks for nothing.
+pub(crate) fn is_nothing(line: &[u8]) -> bool {
+    if input::LONGEST < line.len() {
+        return false;
+    }
+    if line.len() == 0 {
+        return true;
+    }
+    line[0] == b'#'
+}
+
 pub(crate) fn read(line: &[u8]) -> Form {
     if input::LONGEST < line.len() {
         return Form::Unreadable;
-    }
-    if line.len() == 0 {
-        return Form::Nothing;
-    }
-    if line[0] == b'#' {
-        return Form::Nothing;
     }
     let at = word::after(line, 0);
     let key = word::key(line, 0);

@@ -1,5 +1,7 @@
 // The script on standard input, from its first line to its last.
+use crate::form;
 use crate::input;
+use crate::listing;
 use crate::saying;
 use crate::text;
 use crate::turn;
@@ -29,9 +31,17 @@ pub fn run() -> u8
         end = s.end;
         let from = s.from;
         let to = s.to;
+        if form::is_nothing(&block[from..to]) {
+            continue;
+        }
         let t = turn::taken(tables, &block[from..to]);
         tables = t.tables;
-        at = saying::say(t, number, &mut out, at);
+        let said = t.said;
+        let codes = t.codes;
+        at = saying::say(said, codes, t.length, number, &mut out, at);
+        if t.dumps {
+            at = listing::dump(tables, &mut out, at);
+        }
     }
     text::flush(&mut out, at);
     0

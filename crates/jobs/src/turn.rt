@@ -21,13 +21,13 @@ pub(crate) enum Said {
     Unreadable,
     NotHeld,
     Ok,
-    Dump,
     Answer { number: u16, besides: u32 },
 }
 
-// The tables as the line leaves them, and the codes area, which is `length` bytes of `codes`.
+// The tables as the line leaves them, whether they are to be written out, and the codes area, which is `length` bytes of `codes`.
 pub(crate) struct Turn {
     pub(crate) tables: Tables,
+    pub(crate) dumps: bool,
     pub(crate) said: Said,
     pub(crate) codes: [u8; 64],
     pub(crate) length: usize,
@@ -40,11 +40,10 @@ pub(crate) fn taken(t: Tables, line: &[u8]) -> Turn
     ensures { λ r. ⌜ r .length ≤ 64 ⌝ }
 {
     match form::read(line) {
-        Form::Nothing => still(t, Said::Nothing),
         Form::Unreadable => still(t, Said::Unreadable),
-        Form::Dump => still(t, Said::Dump),
+        Form::Dump => dumped(t),
         Form::Fresh { limit, dispatching } => fresh(limit, dispatching),
-        Form::Plain(request) => plain(t, request),
+        Form::Plain(request) => served(t, request, beside::no_names(), beside::no_ecbs(), 0),
         Form::Names {
             request,
             marks,
@@ -62,10 +61,19 @@ fn still(t: Tables, said: Said) -> Turn
 {
     Turn {
         tables: t,
+        dumps: false,
         said,
         codes: [UNWRITTEN; 64],
         length: 0,
     }
+}
+
+fn dumped(t: Tables) -> Turn
+    ensures { λ r. ⌜ r .length ≤ 64 ⌝ }
+{
+    let mut k = still(t, Said::Nothing);
+    k.dumps = true;
+    k
 }
 
 fn fresh(limit: u16, dispatching: u16) -> Turn
@@ -87,6 +95,7 @@ fn answered(a: Answer, codes: [u8; 64], length: usize) -> Turn
     };
     Turn {
         tables,
+        dumps: false,
         said,
         codes,
         length,
@@ -101,13 +110,6 @@ fn served(t: Tables, request: Request, names: NameList, ecbs: EcbList, length: u
     let mut codes = [UNWRITTEN; 64];
     let a = t.serve(request, names, ecbs, &mut codes[..length]);
     answered(a, codes, length)
-}
-
-// A request with no list.
-fn plain(t: Tables, request: Request) -> Turn
-    ensures { λ r. ⌜ r .length ≤ 64 ⌝ }
-{
-    served(t, request, beside::no_names(), beside::no_ecbs(), 0)
 }
 
 // ENQ or DEQ, with the names from `at` on.

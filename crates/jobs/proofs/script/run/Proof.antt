@@ -7,7 +7,9 @@ use Rattle.jobs.proofs.script.run.Statement.{statement}
 use Rattle.jobs.proofs.script.run.Tie as tie
 use Rattle.jobs.proofs.script.run.Reads as reads
 use Rattle.jobs.proofs.script.run.Lts as lts
+use Rattle.jobs.proofs.form.is_nothing.Reads as is-nothing-reads
 use Rattle.jobs.proofs.input.line.Reads as line-reads
+use Rattle.jobs.proofs.listing.dump.Reads as dump-reads
 use Rattle.jobs.proofs.saying.say.Reads as say-reads
 use Rattle.jobs.proofs.text.flush.Reads as flush-reads
 use Rattle.jobs.proofs.turn.taken.Reads as taken-reads
@@ -34,6 +36,24 @@ line-requires c κs = omega arith
 add-number : tie.Need-add-number Inv-loop μ-loop
 add-number c = omega arith
 
+sub-is-nothing : tie.Need-sub-is-nothing Inv-loop μ-loop
+sub-is-nothing c = omega arith
+
+part-is-nothing-start : tie.Need-part-is-nothing-start Inv-loop μ-loop
+part-is-nothing-start c = omega arith
+
+part-is-nothing-end : tie.Need-part-is-nothing-end Inv-loop μ-loop
+part-is-nothing-end c = omega arith
+
+is-nothing-requires : tie.Need-is-nothing-requires Inv-loop μ-loop
+is-nothing-requires c κs = search needs
+
+loop-less : tie.Need-loop-less Inv-loop μ-loop
+loop-less c = omega arith
+
+loop-again : tie.Need-loop-again Inv-loop μ-loop
+loop-again c = omega arith
+
 sub-taken : tie.Need-sub-taken Inv-loop μ-loop
 sub-taken c = omega arith
 
@@ -49,11 +69,20 @@ taken-requires c κs = search needs
 say-requires : tie.Need-say-requires Inv-loop μ-loop
 say-requires c κs = omega arith
 
-loop-less : tie.Need-loop-less Inv-loop μ-loop
-loop-less c = omega arith
+dump-requires : tie.Need-dump-requires Inv-loop μ-loop
+dump-requires c κs = search needs
 
-loop-again : tie.Need-loop-again Inv-loop μ-loop
-loop-again c = omega arith
+loop-less-2 : tie.Need-loop-less-2 Inv-loop μ-loop
+loop-less-2 c = omega arith
+
+loop-again-2 : tie.Need-loop-again-2 Inv-loop μ-loop
+loop-again-2 c = omega arith
+
+loop-less-3 : tie.Need-loop-less-3 Inv-loop μ-loop
+loop-less-3 c = omega arith
+
+loop-again-3 : tie.Need-loop-again-3 Inv-loop μ-loop
+loop-again-3 c = omega arith
 
 flush-requires : tie.Need-flush-requires Inv-loop μ-loop
 flush-requires c κs = search needs
@@ -72,12 +101,21 @@ run-spec =
     slice-aggregate-line
     line-requires
     add-number
+    sub-is-nothing
+    part-is-nothing-start
+    part-is-nothing-end
+    is-nothing-requires
+    loop-less
+    loop-again
     sub-taken
     part-taken-start
     part-taken-end
     taken-requires
     say-requires
-    loop-less
-    loop-again
+    dump-requires
+    loop-less-2
+    loop-again-2
+    loop-less-3
+    loop-again-3
     flush-requires
     returns)

@@ -1,3 +1,4 @@
+// The script on standard input is answered on standard output, to its end.
 fn main() {
-    jobs::run();
+    check::expect(jobs::run() == 0);
 }

@@ -67,13 +67,20 @@ pub fn with_place(f: Family, n: TaskNumber, x: Task) -> Family
 }
 
 // Task n is in use and is c or below c. A chain without repetition has at most as many tasks as there are places.
+// The places are read here, so that the table is not copied for each task of the chain.
 pub fn is_below(f: Family, c: TaskNumber, n: TaskNumber) -> bool
     ensures { λ r. ⌜ r ≡ below (f .places) (c .0) (n .0) ⌝ }
 {
     let mut a = n.0;
     let mut left = TaskNumber::HIGHEST;
     while 0 < left {
-        let x = at(f, TaskNumber(a));
+        if a == 0 {
+            return false;
+        }
+        if TaskNumber::HIGHEST < a {
+            return false;
+        }
+        let x = f.places[(a - 1) as usize];
         let k = x.condition;
         if k.is_free() {
             return false;

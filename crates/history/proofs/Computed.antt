@@ -3,30 +3,13 @@ use mathlib.Core.Path.{_≡_, refl}
 use mathlib.Core.Bool.{true, false}
 use mathlib.Core.List.{List, [], _∷_, _++_, map}
 use Rattle.lists.specs.Lists.{some}
-use Rattle.lists.specs.Pick.{pick}
-use Rattle.kinds.specs.Ranges.{between, dpmodGood}
-use Rattle.rules.specs.Names.{legal, namesGood}
-use Rattle.rules.specs.Control.{Entry, ofTask, queueOf, granted, available, control}
-use Rattle.rules.specs.Rings.{bars, waitsFor}
-use Rattle.rules.specs.Family.{place, used, mother, chain, below, isSubtaskOf}
-use Rattle.rules.specs.Waits.{waitAt}
-use Rattle.rules.specs.Ending.{endAt, areaStays, waiterStays, leftBy, detached}
-use Rattle.rules.specs.Admission.{admitted, gateOf, openGate, through, settled}
+use Rattle.rules.specs.Control.{Entry, ofTask, queueOf}
+use Rattle.rules.specs.Rings.{waitsFor}
 use Rattle.rules.specs.Steps.{Step}
-use Rattle.rules.specs.Fresh.{begunWith}
-use Rattle.rules.specs.Attach.{heldTo, newDispatching, attachVerdict, newTask, attachDone}
-use Rattle.rules.specs.Detach.{detachVerdict, detachDone}
-use Rattle.rules.specs.Codes.{coded, writtenOn, tooShort}
-use Rattle.rules.specs.Enq.{enqCode, tooFewFree, enqVerdict, madeExclusive, enqDone, enqWritten}
-use Rattle.rules.specs.Deq.{deqCode, deqVerdict, deqDone, deqWritten}
-use Rattle.rules.specs.SoundTasks.{tasksFit, jobStepGood, motherGood, mothersGood, prioritiesGood, taskEcbsGood, endedTasksGood, zeroTask, freePlacesGood}
-use Rattle.rules.specs.SoundQueue.{queueFits, entriesLive, entriesOnce, entryNamesGood, waitGood, waitsGood}
-use Rattle.rules.specs.SoundEcbs.{ecbsFit, waitersGood, needsGood, ecbWordGood, ecbWordsGood, zeroEcb}
-use Rattle.rules.specs.SoundAreas.{areasFit, areaShapeGood, areaShapesGood, areaOwnerGood, areaOwnersGood, areasRise, areasApart}
-use Rattle.rules.specs.Sound.{soundTasks, soundQueue, soundEcbs, soundAreas, overGood, runningGood, soundStep}
-use Rattle.rules.specs.Serve.{Asked, serviceOf, serveOf}
-use Rattle.rules.specs.Reading.{climbs, endsWith, Turn, nothing, queueRead, oneAtATime}
+use Rattle.rules.specs.Serve.{Asked}
+use Rattle.rules.specs.Reading.{Turn, nothing, queueRead, oneAtATime}
 use Rattle.rules.specs.Demand.{leadingRun, waitsIn, standsIn}
+use Rattle.rules.specs.Opened.{rules-open}
 use Rattle.history.specs.Samples.{turnsBy, comesTo, start, x, y, served, ownersOf, orderly, crossed, behindOwners, ownerDetached, asksOnce, changes, twoAsk, second}
 use Rattle.history.specs.Impostors.{weakHabit, deafRead, leavesAll, forgetsOne, grantsAll}
 
@@ -68,12 +51,7 @@ pub record Shown : Type 0 where
   pub not-leading : standsIn second (leadingRun (queueOf x (queueRead (turnsBy grantsAll start twoAsk)))) ≡ false
 
 pub shown : Shown
-unfolding pick between dpmodGood legal namesGood granted available control bars waitsFor place used mother chain below isSubtaskOf waitAt endAt areaStays
-    waiterStays leftBy detached admitted gateOf openGate through settled begunWith heldTo newDispatching attachVerdict newTask attachDone
-    detachVerdict detachDone coded writtenOn tooShort enqCode tooFewFree enqVerdict madeExclusive enqDone enqWritten deqCode deqVerdict deqDone deqWritten
-    tasksFit jobStepGood motherGood mothersGood prioritiesGood taskEcbsGood endedTasksGood zeroTask freePlacesGood queueFits entriesLive entriesOnce
-    entryNamesGood waitGood waitsGood ecbsFit waitersGood needsGood ecbWordGood ecbWordsGood zeroEcb areasFit areaShapeGood areaShapesGood areaOwnerGood
-    areaOwnersGood areasRise areasApart soundTasks soundQueue soundEcbs soundAreas overGood runningGood soundStep serviceOf serveOf climbs endsWith
+unfolding rules-open
 shown = record {
   orderly-habit = refl;
   orderly-waits = refl;

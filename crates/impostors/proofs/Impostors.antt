@@ -1,0 +1,88 @@
+-- NO IMPOSTOR MEETS THE CONTRACT OF `serve`: tables and a request for each, and what is then false. Assumes nothing.
+use Prim.Native.Nat.{ℕ}
+use mathlib.Core.Path.{_≡_, refl, ap}
+use mathlib.Core.Bool.{Bool, true, false, not}
+use mathlib.Core.List.{List, [], _∷_, map}
+use lib.Dec.{eqb, leb}
+use Rattle.lists.specs.Lists.{some}
+use Rattle.kinds.specs.Replies.{refusalNumber}
+use Rattle.kinds.specs.Tasks.{withCondition, inResourceWait}
+use Rattle.kinds.specs.declared.tasks.Task.{Task}
+use Rattle.kinds.specs.declared.tasks.Condition.{Condition}
+use Rattle.kinds.specs.declared.tasks.Condition.the-variants.{Free, Ready, ResourceWait, EcbWait, Ended}
+use Rattle.kinds.specs.declared.requests.Request.the-variants.{End, Dispatch}
+use Rattle.kinds.specs.declared.requests.Ret.the-variants.{None}
+use Rattle.kinds.specs.declared.requests.DeqRet.the-variants.{None as DeqNone}
+use Rattle.kinds.specs.declared.replies.Refusal.{Refusal}
+use Rattle.kinds.specs.declared.replies.Refusal.the-variants.{Unsound, OutOfRange, NotLive, Waits, ShortCodes, NoEntryFree, NoTaskFree, NoAreaFree, StepOver, WaitBitOn}
+use Rattle.rules.specs.Steps.{Step, Served}
+use Rattle.rules.specs.Table.{exc}
+use Rattle.rules.specs.Waits.{letGo}
+use Rattle.history.specs.Samples.{start, x}
+use Rattle.services.specs.declared.Tables.{Tables}
+use Rattle.impostors.specs.Opened.{tables-open}
+use Rattle.impostors.specs.Impostors.{Given, Service, Caught, caught, on, allGo, refusesAll, saysZero, copiesBack, grantsAtOnce}
+use Rattle.impostors.specs.Samples.{task, alone, enq, deq, after, owned, second, awaited}
+
+-- every refusal has a number of 100 or more
+refusals-high : (why : Refusal) → leb 100 (refusalNumber why) ≡ true
+refusals-high Unsound = refl
+refusals-high OutOfRange = refl
+refusals-high NotLive = refl
+refusals-high Waits = refl
+refusals-high ShortCodes = refl
+refusals-high NoEntryFree = refl
+refusals-high NoTaskFree = refl
+refusals-high NoAreaFree = refl
+refusals-high StepOver = refl
+refusals-high WaitBitOn = refl
+
+-- nobody is left in a resource wait where all are let go
+abbrev waiting : Task → Bool
+waiting x = inResourceWait (x .condition)
+
+let-go : (k : Condition) → inResourceWait (letGo k) ≡ false
+let-go Free = refl
+let-go Ready = refl
+let-go ResourceWait = refl
+let-go (EcbWait n) = refl
+let-go Ended = refl
+
+nobody-waits : (ts : List Task) → some waiting (allGo ts) ≡ false
+nobody-waits [] = refl
+nobody-waits (x ∷ ts) = rw (let-go (x .condition)) (nobody-waits ts)
+
+abbrev somebodyWaits : Served Tables → Bool
+somebodyWaits o = some waiting (o .outcome .tables .family .places)
+
+-- 2 asks for what task 1 owns
+abbrev enq-by-2 : Given
+enq-by-2 = on (after start owned) second
+
+-- DISPATCH of a fresh step is done
+pub refusing-caught : (why : Given → Refusal) → Caught (refusesAll why)
+unfolding tables-open
+refusing-caught why =
+    caught (refusesAll why) (on start (alone Dispatch)) refl (λ o. leb 100 (o .outcome .number)) (refusals-high (why (on start (alone Dispatch)))) refl
+
+-- task 2 of a fresh step is not live, and its END is refused
+pub saying-zero-caught : (besides : Given → ℕ) (f : Service) → Caught (saysZero besides f)
+unfolding tables-open
+saying-zero-caught besides f = caught (saysZero besides f) (on start (alone (End (task 2) 0))) refl (λ o. eqb (o .outcome .number) 0) refl refl
+
+-- task 1 of a fresh step asks for x, and there is an entry
+pub copying-caught : (f : Service) → Caught (copiesBack f)
+unfolding tables-open
+copying-caught f = caught (copiesBack f) (on start (enq 1 None 0 (exc x ∷ []))) refl (λ o. eqb (o .outcome .tables .queue .count) 0) refl refl
+
+-- 2 has to wait
+pub granting-caught-at-enq : (f : Service) → Caught (grantsAtOnce f)
+unfolding tables-open
+granting-caught-at-enq f =
+    caught (grantsAtOnce f) enq-by-2 refl (λ o. not (somebodyWaits o)) (ap not (nobody-waits (f enq-by-2 .answer .tables .family .places))) refl
+
+-- 2 waits, and has to go on when task 1 gives x back
+pub granting-caught-at-deq : (f : Service) → Caught (grantsAtOnce f)
+unfolding tables-open
+granting-caught-at-deq f =
+    caught (grantsAtOnce f) (on (after start awaited) (deq 1 DeqNone 0 (exc x ∷ []))) refl somebodyWaits refl refl

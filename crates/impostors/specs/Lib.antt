@@ -1,0 +1,6 @@
+pub mod Opened
+pub mod Wrong
+pub mod Fitting
+pub mod Samples
+pub mod Impostors
+pub mod Slips

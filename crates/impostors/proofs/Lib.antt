@@ -10,9 +10,15 @@ pub mod OfPlaces
 pub mod OfSubtasks
 pub mod OfEvents
 pub mod OfWaits
+pub mod OfAreas
+pub mod OfStorage
+pub mod OfRooms
 pub mod OfLocks
 pub mod OfClaims
 pub mod OfSignals
+pub mod OfHoldings
+pub mod OfSoundness
+pub mod OfEndings
 pub mod OfServices
 pub mod Real
 pub mod Impostors

@@ -1,2 +1,1 @@
 pub mod Minus
-pub mod Promises

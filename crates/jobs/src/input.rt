@@ -1,4 +1,5 @@
 // Standard input, read in blocks and taken line by line.
+use crate::failure;
 ghost use mathlib.Core.Path.{_≡_};
 ghost use Prim.Native.Nat.{_+_, _≤_};
 ghost use lib.ListN.{length};
@@ -9,13 +10,21 @@ pub(crate) const BLOCK: usize = 65536;
 // A longer line is not readable, whatever it holds.
 pub(crate) const LONGEST: usize = 16383;
 
-// The block has `end` bytes of the input. The line is from..to, and what comes after it starts at `next`.
+// The block has `end` bytes of the input. The line is from..to, and what comes after it starts at `next`. The input is over where it has no line any
+// more, or where a read failed.
 pub(crate) struct Span {
     pub(crate) over: bool,
+    pub(crate) failed: bool,
     pub(crate) from: usize,
     pub(crate) to: usize,
     pub(crate) next: usize,
     pub(crate) end: usize,
+}
+
+// What one read brought: no bytes at the end of the input, or where it failed.
+struct Got {
+    count: usize,
+    failed: bool,
 }
 
 // The first LF at or after `from`, or `end`.
@@ -33,18 +42,27 @@ fn line_end(block: &[u8], from: usize, end: usize) -> usize
     end
 }
 
-// One read; answers how many bytes came, none at the end of the input.
-fn read_some(room: &mut [u8]) -> usize
-    ensures { λ r. ⌜ r ≤ length (now (room .entry)) ⌝ }
+fn read_some(room: &mut [u8]) -> Got
+    ensures { λ r. ⌜ r .count ≤ length (now (room .entry)) ⌝ }
 {
     let got = libc::read(0, room);
-    io::count(got, room)
+    if got < 0 {
+        failure::unread();
+        return Got {
+            count: 0,
+            failed: true,
+        };
+    }
+    Got {
+        count: io::count(got, room),
+        failed: false,
+    }
 }
 
 // One read into the block from `end` on.
-fn filled(block: &mut [u8], end: usize) -> usize
+fn filled(block: &mut [u8], end: usize) -> Got
     requires { ⌜ end ≤ length (now block) ⌝ }
-    ensures { λ r. ⌜ end + r ≤ length (now (block .entry)) ⌝ }
+    ensures { λ r. ⌜ end + r .count ≤ length (now (block .entry)) ⌝ }
 {
     read_some(&mut block[end..])
 }
@@ -72,6 +90,7 @@ pub(crate) fn line(block: &mut [u8], from: usize, end: usize) -> Span
     if to < end {
         return Span {
             over: false,
+            failed: false,
             from,
             to,
             next: to + 1,
@@ -93,14 +112,19 @@ fn longer(block: &mut [u8], kept: usize) -> Span
     let mut end = kept;
     while end <= LONGEST {
         let got = filled(block, end);
-        if got == 0 {
+        if got.failed {
+            return cut();
+        }
+        let count = got.count;
+        if count == 0 {
             return last(end);
         }
-        let to = line_end(block, end, end + got);
-        end += got;
+        let to = line_end(block, end, end + count);
+        end += count;
         if to < end {
             return Span {
                 over: false,
+                failed: false,
                 from: 0,
                 to,
                 next: to + 1,
@@ -118,10 +142,25 @@ fn last(end: usize) -> Span
 {
     Span {
         over: end == 0,
+        failed: false,
         from: 0,
         to: end,
         next: end,
         end,
+    }
+}
+
+// No line: what came of it before a read failed may be the front of another.
+fn cut() -> Span
+    ensures { λ r. ⌜ Within r ⌝ }
+{
+    Span {
+        over: true,
+        failed: true,
+        from: 0,
+        to: 0,
+        next: 0,
+        end: 0,
     }
 }
 
@@ -132,7 +171,11 @@ fn rest_of_long(block: &mut [u8]) -> Span
 {
     let mut turns = u64::MAX;
     while 0 < turns {
-        let end = read_some(block);
+        let got = read_some(block);
+        if got.failed {
+            return cut();
+        }
+        let end = got.count;
         if end == 0 {
             return long(0, 0);
         }
@@ -152,6 +195,7 @@ fn long(next: usize, end: usize) -> Span
 {
     Span {
         over: false,
+        failed: false,
         from: 0,
         to: LONGEST + 1,
         next,

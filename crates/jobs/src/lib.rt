@@ -4,6 +4,7 @@ mod beside;
 mod dpmod;
 mod ecb_row;
 mod entry_row;
+mod failure;
 mod fields;
 mod form;
 mod hex;

@@ -8,26 +8,35 @@ use crate::text::put;
 use crate::text::put_byte;
 use crate::text::put_bytes_hex;
 use crate::text::put_number;
+ghost use Rattle.jobs.specs.Places.{Kept};
 
 // A space and a number.
-pub(crate) fn put_field(out: &mut [u8; BLOCK], at: usize, n: u32) -> usize {
+pub(crate) fn put_field(out: &mut [u8; BLOCK], at: usize, n: u32) -> usize
+    ensures { λ r. ⌜ Kept at r ⌝ }
+{
     let k = put_byte(out, at, b' ');
     put_number(out, k, n)
 }
 
-fn put_hex_field(out: &mut [u8; BLOCK], at: usize, bytes: &[u8]) -> usize {
+fn put_hex_field(out: &mut [u8; BLOCK], at: usize, bytes: &[u8]) -> usize
+    ensures { λ r. ⌜ Kept at r ⌝ }
+{
     let k = put_byte(out, at, b' ');
     put_bytes_hex(out, k, bytes)
 }
 
-pub(crate) fn put_step(out: &mut [u8; BLOCK], at: usize, over: u32, code: u32) -> usize {
+pub(crate) fn put_step(out: &mut [u8; BLOCK], at: usize, over: u32, code: u32) -> usize
+    ensures { λ r. ⌜ Kept at r ⌝ }
+{
     let k = put(out, at, b"step");
     let k = put_field(out, k, over);
     let k = put_field(out, k, code);
     put_byte(out, k, b'\n')
 }
 
-pub(crate) fn put_task(out: &mut [u8; BLOCK], at: usize, n: u32, r: RawTask) -> usize {
+pub(crate) fn put_task(out: &mut [u8; BLOCK], at: usize, n: u32, r: RawTask) -> usize
+    ensures { λ r. ⌜ Kept at r ⌝ }
+{
     if r.is_zero() {
         return at;
     }
@@ -44,7 +53,9 @@ pub(crate) fn put_task(out: &mut [u8; BLOCK], at: usize, n: u32, r: RawTask) -> 
     put_byte(out, k, b'\n')
 }
 
-pub(crate) fn put_entry(out: &mut [u8; BLOCK], at: usize, n: u32, r: RawEntry) -> usize {
+pub(crate) fn put_entry(out: &mut [u8; BLOCK], at: usize, n: u32, r: RawEntry) -> usize
+    ensures { λ r. ⌜ Kept at r ⌝ }
+{
     if r.is_zero() {
         return at;
     }
@@ -60,7 +71,9 @@ pub(crate) fn put_entry(out: &mut [u8; BLOCK], at: usize, n: u32, r: RawEntry) -
     put_byte(out, k, b'\n')
 }
 
-pub(crate) fn put_ecb(out: &mut [u8; BLOCK], at: usize, n: u32, r: RawEcb) -> usize {
+pub(crate) fn put_ecb(out: &mut [u8; BLOCK], at: usize, n: u32, r: RawEcb) -> usize
+    ensures { λ r. ⌜ Kept at r ⌝ }
+{
     if r.is_zero() {
         return at;
     }
@@ -73,7 +86,9 @@ pub(crate) fn put_ecb(out: &mut [u8; BLOCK], at: usize, n: u32, r: RawEcb) -> us
     put_byte(out, k, b'\n')
 }
 
-pub(crate) fn put_area(out: &mut [u8; BLOCK], at: usize, n: u32, r: RawArea) -> usize {
+pub(crate) fn put_area(out: &mut [u8; BLOCK], at: usize, n: u32, r: RawArea) -> usize
+    ensures { λ r. ⌜ Kept at r ⌝ }
+{
     if r.is_zero() {
         return at;
     }

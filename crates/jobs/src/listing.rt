@@ -24,6 +24,7 @@ use kinds::TaskNumber;
 use queue::Queue;
 use services::Tables;
 use storage::Storage;
+ghost use Rattle.jobs.specs.Places.{Kept};
 
 // Every byte of a codes area before a request.
 pub(crate) const UNWRITTEN: u8 = 0xee;
@@ -34,14 +35,18 @@ pub(crate) fn answer(
     number: u16,
     besides: u32,
     codes: &[u8],
-) -> usize {
+) -> usize
+    ensures { λ r. ⌜ Kept at r ⌝ }
+{
     let k = put_number(out, at, number as u32);
     let k = put_field(out, k, besides);
     let k = put_codes(out, k, codes);
     put_byte(out, k, b'\n')
 }
 
-fn put_codes(out: &mut [u8; BLOCK], at: usize, codes: &[u8]) -> usize {
+fn put_codes(out: &mut [u8; BLOCK], at: usize, codes: &[u8]) -> usize
+    ensures { λ r. ⌜ Kept at r ⌝ }
+{
     if !any_written(codes) {
         return at;
     }
@@ -60,7 +65,9 @@ fn any_written(codes: &[u8]) -> bool {
     false
 }
 
-pub(crate) fn dump(t: Tables, out: &mut [u8; BLOCK], at: usize) -> usize {
+pub(crate) fn dump(t: Tables, out: &mut [u8; BLOCK], at: usize) -> usize
+    ensures { λ r. ⌜ Kept at r ⌝ }
+{
     let f = t.family;
     let q = t.queue;
     let e = t.events;
@@ -73,7 +80,9 @@ pub(crate) fn dump(t: Tables, out: &mut [u8; BLOCK], at: usize) -> usize {
     put(out, k, b".\n")
 }
 
-fn put_tasks(f: Family, out: &mut [u8; BLOCK], at: usize) -> usize {
+fn put_tasks(f: Family, out: &mut [u8; BLOCK], at: usize) -> usize
+    ensures { λ r. ⌜ Kept at r ⌝ }
+{
     let mut k = at;
     let mut i: usize = 0;
     while i < TaskNumber::PLACES {
@@ -84,7 +93,9 @@ fn put_tasks(f: Family, out: &mut [u8; BLOCK], at: usize) -> usize {
     k
 }
 
-fn put_entries(q: Queue, out: &mut [u8; BLOCK], at: usize) -> usize {
+fn put_entries(q: Queue, out: &mut [u8; BLOCK], at: usize) -> usize
+    ensures { λ r. ⌜ Kept at r ⌝ }
+{
     let mut k = at;
     let mut i: usize = 0;
     while i < Slot::PLACES {
@@ -95,7 +106,9 @@ fn put_entries(q: Queue, out: &mut [u8; BLOCK], at: usize) -> usize {
     k
 }
 
-fn put_ecbs(e: Events, out: &mut [u8; BLOCK], at: usize) -> usize {
+fn put_ecbs(e: Events, out: &mut [u8; BLOCK], at: usize) -> usize
+    ensures { λ r. ⌜ Kept at r ⌝ }
+{
     let mut k = at;
     let mut i: usize = 0;
     while i < EcbNumber::PLACES {
@@ -106,7 +119,9 @@ fn put_ecbs(e: Events, out: &mut [u8; BLOCK], at: usize) -> usize {
     k
 }
 
-fn put_areas(s: Storage, out: &mut [u8; BLOCK], at: usize) -> usize {
+fn put_areas(s: Storage, out: &mut [u8; BLOCK], at: usize) -> usize
+    ensures { λ r. ⌜ Kept at r ⌝ }
+{
     let mut k = at;
     let mut i: usize = 0;
     while i < Area::PLACES {

@@ -3,6 +3,7 @@ use crate::listing;
 use crate::text;
 use crate::turn::Said;
 ghost use Prim.Native.Nat.{_≤_};
+ghost use Rattle.jobs.specs.Places.{Kept};
 
 // The answer to line `number` of the script, behind what is in the block; the codes area is `length` bytes of `codes`.
 pub(crate) fn say(
@@ -14,6 +15,7 @@ pub(crate) fn say(
     at: usize,
 ) -> usize
     requires { ⌜ length ≤ 64 ⌝ }
+    ensures { λ r. ⌜ Kept at r ⌝ }
 {
     match said {
         Said::Nothing => at,
@@ -30,7 +32,9 @@ pub(crate) fn say(
     }
 }
 
-fn mark(sign: &[u8], number: u64, out: &mut [u8; text::BLOCK], at: usize) -> usize {
+fn mark(sign: &[u8], number: u64, out: &mut [u8; text::BLOCK], at: usize) -> usize
+    ensures { λ r. ⌜ Kept at r ⌝ }
+{
     let mut digits = [0u8; 20];
     let n = io::decimal(number, &mut digits);
     let a = text::put(out, at, sign);

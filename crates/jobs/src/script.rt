@@ -6,13 +6,10 @@ use crate::saying;
 use crate::text;
 use crate::turn;
 use services::Tables;
-ghost use mathlib.Core.Path.{_≡_};
 
-// Answers 0 at the end of the input. Before the first `fresh` the tables are those of a step over with code 0, which a fresh start
-// with dispatching above limit gives back.
-pub fn run() -> u8
-    ensures { λ r. ⌜ r ≡ 0 ⌝ }
-{
+// Answers whether the end of the input was seen and every answer written. That is for the system to say, so nothing is promised of it. Before the
+// first `fresh` the tables are those of a step over with code 0, which a fresh start with dispatching above limit gives back.
+pub fn run() -> bool {
     let mut block = [0u8; input::BLOCK];
     let mut out = [0u8; text::BLOCK];
     let start = Tables::fresh(0, 1);
@@ -21,9 +18,11 @@ pub fn run() -> u8
     let mut end: usize = 0;
     let mut at: usize = 0;
     let mut number: u64 = 0;
+    let mut ended = false;
     while number < u64::MAX {
         let s = input::line(&mut block, next, end);
         if s.over {
+            ended = !s.failed;
             break;
         }
         number += 1;
@@ -42,7 +41,10 @@ pub fn run() -> u8
         if t.dumps {
             at = listing::dump(tables, &mut out, at);
         }
+        if text::BLOCK < at {
+            break;
+        }
     }
-    text::flush(&mut out, at);
-    0
+    let left = text::flush(&mut out, at);
+    ended && left == 0
 }

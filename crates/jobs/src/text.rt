@@ -1,36 +1,55 @@
-// Bytes to be written, kept in a block until it is full. Each function takes the place where the block's bytes end and answers the new one; a place
-// past the block counts as its end.
+// Bytes to be written, kept in a block until it is full. Each function takes the place where the block's bytes end and answers the new one. A place
+// past the block says that a write has failed: it stays so, and the bytes put there are dropped.
+use crate::failure;
 ghost use mathlib.Core.Path.{_≡_};
+ghost use Prim.Native.Nat.{_+_, _<_};
+ghost use Rattle.jobs.specs.Places.{Emptied, Kept};
 
 pub(crate) const BLOCK: usize = 65536;
 
+const LOST: usize = BLOCK + 1;
+
 // Writes the block's bytes, and the block is empty.
 pub(crate) fn flush(out: &mut [u8; BLOCK], at: usize) -> usize
-    ensures { λ r. ⌜ r ≡ 0 ⌝ }
+    ensures { λ r. ⌜ Emptied r ⌝ }
+    ensures { λ r. ⌜ Kept at r ⌝ }
 {
-    write_front(out, at);
-    0
-}
-
-fn write_front(bytes: &mut [u8], n: usize) {
-    if n < bytes.len() {
-        io::write_all(1, &bytes[..n]);
-    } else {
-        io::write_all(1, bytes);
+    if BLOCK < at {
+        return at;
     }
+    if write_front(out, at) {
+        return 0;
+    }
+    failure::unwritten();
+    LOST
 }
 
-pub(crate) fn put_byte(out: &mut [u8; BLOCK], at: usize, byte: u8) -> usize {
+fn write_front(bytes: &mut [u8], n: usize) -> bool {
+    if n < bytes.len() {
+        return io::write_all(1, &bytes[..n]);
+    }
+    io::write_all(1, bytes)
+}
+
+pub(crate) fn put_byte(out: &mut [u8; BLOCK], at: usize, byte: u8) -> usize
+    ensures { λ r. ⌜ (at < 65536 → r ≡ at + 1) ⌝ }
+    ensures { λ r. ⌜ Kept at r ⌝ }
+{
     if at < BLOCK {
         out[at] = byte;
         return at + 1;
     }
     let start = flush(out, at);
-    out[start] = byte;
-    start + 1
+    if start < BLOCK {
+        out[start] = byte;
+        return start + 1;
+    }
+    start
 }
 
-pub(crate) fn put(out: &mut [u8; BLOCK], at: usize, bytes: &[u8]) -> usize {
+pub(crate) fn put(out: &mut [u8; BLOCK], at: usize, bytes: &[u8]) -> usize
+    ensures { λ r. ⌜ Kept at r ⌝ }
+{
     let mut k = at;
     let mut i = 0;
     while i < bytes.len() {
@@ -41,7 +60,9 @@ pub(crate) fn put(out: &mut [u8; BLOCK], at: usize, bytes: &[u8]) -> usize {
 }
 
 // Decimal digits, from the last one on.
-pub(crate) fn put_number(out: &mut [u8; BLOCK], at: usize, n: u32) -> usize {
+pub(crate) fn put_number(out: &mut [u8; BLOCK], at: usize, n: u32) -> usize
+    ensures { λ r. ⌜ Kept at r ⌝ }
+{
     if n < 10 {
         return put_byte(out, at, b'0' + n as u8);
     }
@@ -64,12 +85,16 @@ fn hex_digit(n: u8) -> u8 {
 }
 
 // Two lower case digits.
-pub(crate) fn put_hex(out: &mut [u8; BLOCK], at: usize, byte: u8) -> usize {
+pub(crate) fn put_hex(out: &mut [u8; BLOCK], at: usize, byte: u8) -> usize
+    ensures { λ r. ⌜ Kept at r ⌝ }
+{
     let k = put_byte(out, at, hex_digit(byte / 16));
     put_byte(out, k, hex_digit(byte % 16))
 }
 
-pub(crate) fn put_bytes_hex(out: &mut [u8; BLOCK], at: usize, bytes: &[u8]) -> usize {
+pub(crate) fn put_bytes_hex(out: &mut [u8; BLOCK], at: usize, bytes: &[u8]) -> usize
+    ensures { λ r. ⌜ Kept at r ⌝ }
+{
     let mut k = at;
     let mut i = 0;
     while i < bytes.len() {

@@ -7,6 +7,7 @@ use Rattle.jobs.proofs.input.longer.Statement.{statement}
 use Rattle.jobs.proofs.input.longer.Tie as tie
 use Rattle.jobs.proofs.input.longer.Reads as reads
 use Rattle.jobs.proofs.input.longer.Lts as lts
+use Rattle.jobs.proofs.input.cut.Reads as cut-reads
 use Rattle.jobs.proofs.input.filled.Reads as filled-reads
 use Rattle.jobs.proofs.input.last.Reads as last-reads
 use Rattle.jobs.proofs.input.line_end.Reads as line-end-reads
@@ -24,14 +25,23 @@ loop-holds c = omega arith
 filled-requires : tie.Need-filled-requires Inv-loop μ-loop
 filled-requires c κs = omega arith
 
-last-requires : tie.Need-last-requires Inv-loop μ-loop
-last-requires c κs = omega arith
+cut-requires : tie.Need-cut-requires Inv-loop μ-loop
+cut-requires c κs = search needs
 
 same-length : tie.Need-same-length Inv-loop μ-loop
 same-length c = omega arith
 
 returns : tie.Need-returns Inv-loop μ-loop
 returns c = search needs
+
+last-requires : tie.Need-last-requires Inv-loop μ-loop
+last-requires c κs = omega arith
+
+same-length-2 : tie.Need-same-length-2 Inv-loop μ-loop
+same-length-2 c = omega arith
+
+returns-2 : tie.Need-returns-2 Inv-loop μ-loop
+returns-2 c = search needs
 
 add-line-end : tie.Need-add-line-end Inv-loop μ-loop
 add-line-end c = omega arith
@@ -42,14 +52,14 @@ line-end-requires c κs = omega arith
 add-end : tie.Need-add-end Inv-loop μ-loop
 add-end c = omega arith
 
-add-t12 : tie.Need-add-t12 Inv-loop μ-loop
-add-t12 c = omega arith
+add-t13 : tie.Need-add-t13 Inv-loop μ-loop
+add-t13 c = omega arith
 
-same-length-2 : tie.Need-same-length-2 Inv-loop μ-loop
-same-length-2 c = omega arith
+same-length-3 : tie.Need-same-length-3 Inv-loop μ-loop
+same-length-3 c = omega arith
 
-returns-2 : tie.Need-returns-2 Inv-loop μ-loop
-returns-2 c = search needs
+returns-3 : tie.Need-returns-3 Inv-loop μ-loop
+returns-3 c = search needs
 
 loop-less : tie.Need-loop-less Inv-loop μ-loop
 loop-less c = omega arith
@@ -60,11 +70,11 @@ loop-again c = omega arith
 rest-of-long-requires : tie.Need-rest-of-long-requires Inv-loop μ-loop
 rest-of-long-requires c κs = omega arith
 
-same-length-3 : tie.Need-same-length-3 Inv-loop μ-loop
-same-length-3 c = omega arith
+same-length-4 : tie.Need-same-length-4 Inv-loop μ-loop
+same-length-4 c = omega arith
 
-returns-3 : tie.Need-returns-3 Inv-loop μ-loop
-returns-3 c = search needs
+returns-4 : tie.Need-returns-4 Inv-loop μ-loop
+returns-4 c = search needs
 
 pub longer-spec : {M : Type 1} → statement M
 longer-spec =
@@ -74,17 +84,20 @@ longer-spec =
     μ-loop
     loop-holds
     filled-requires
-    last-requires
+    cut-requires
     same-length
     returns
+    last-requires
+    same-length-2
+    returns-2
     add-line-end
     line-end-requires
     add-end
-    add-t12
-    same-length-2
-    returns-2
+    add-t13
+    same-length-3
+    returns-3
     loop-less
     loop-again
     rest-of-long-requires
-    same-length-3
-    returns-3)
+    same-length-4
+    returns-4)

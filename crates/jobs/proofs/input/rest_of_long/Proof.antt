@@ -6,6 +6,7 @@ use Rattle.jobs.proofs.input.rest_of_long.Statement.{statement}
 use Rattle.jobs.proofs.input.rest_of_long.Tie as tie
 use Rattle.jobs.proofs.input.rest_of_long.Reads as reads
 use Rattle.jobs.proofs.input.rest_of_long.Lts as lts
+use Rattle.jobs.proofs.input.cut.Reads as cut-reads
 use Rattle.jobs.proofs.input.line_end.Reads as line-end-reads
 use Rattle.jobs.proofs.input.long.Reads as long-reads
 use Rattle.jobs.proofs.input.read_some.Reads as read-some-reads
@@ -22,14 +23,23 @@ loop-holds c = omega arith
 read-some-requires : tie.Need-read-some-requires Inv-loop μ-loop
 read-some-requires c κs = search needs
 
-long-requires : tie.Need-long-requires Inv-loop μ-loop
-long-requires c κs = omega arith
+cut-requires : tie.Need-cut-requires Inv-loop μ-loop
+cut-requires c κs = search needs
 
 same-length : tie.Need-same-length Inv-loop μ-loop
 same-length c = omega arith
 
 returns : tie.Need-returns Inv-loop μ-loop
 returns c = search needs
+
+long-requires : tie.Need-long-requires Inv-loop μ-loop
+long-requires c κs = omega arith
+
+same-length-2 : tie.Need-same-length-2 Inv-loop μ-loop
+same-length-2 c = omega arith
+
+returns-2 : tie.Need-returns-2 Inv-loop μ-loop
+returns-2 c = search needs
 
 line-end-requires : tie.Need-line-end-requires Inv-loop μ-loop
 line-end-requires c κs = omega arith
@@ -40,11 +50,11 @@ add-long c = omega arith
 long-requires-2 : tie.Need-long-requires-2 Inv-loop μ-loop
 long-requires-2 c κs = omega arith
 
-same-length-2 : tie.Need-same-length-2 Inv-loop μ-loop
-same-length-2 c = omega arith
+same-length-3 : tie.Need-same-length-3 Inv-loop μ-loop
+same-length-3 c = omega arith
 
-returns-2 : tie.Need-returns-2 Inv-loop μ-loop
-returns-2 c = search needs
+returns-3 : tie.Need-returns-3 Inv-loop μ-loop
+returns-3 c = search needs
 
 sub-turns : tie.Need-sub-turns Inv-loop μ-loop
 sub-turns c = omega arith
@@ -58,11 +68,11 @@ loop-again c = omega arith
 long-requires-3 : tie.Need-long-requires-3 Inv-loop μ-loop
 long-requires-3 c κs = omega arith
 
-same-length-3 : tie.Need-same-length-3 Inv-loop μ-loop
-same-length-3 c = omega arith
+same-length-4 : tie.Need-same-length-4 Inv-loop μ-loop
+same-length-4 c = omega arith
 
-returns-3 : tie.Need-returns-3 Inv-loop μ-loop
-returns-3 c = search needs
+returns-4 : tie.Need-returns-4 Inv-loop μ-loop
+returns-4 c = search needs
 
 pub rest-of-long-spec : {M : Type 1} → statement M
 rest-of-long-spec =
@@ -72,17 +82,20 @@ rest-of-long-spec =
     μ-loop
     loop-holds
     read-some-requires
-    long-requires
+    cut-requires
     same-length
     returns
+    long-requires
+    same-length-2
+    returns-2
     line-end-requires
     add-long
     long-requires-2
-    same-length-2
-    returns-2
+    same-length-3
+    returns-3
     sub-turns
     loop-less
     loop-again
     long-requires-3
-    same-length-3
-    returns-3)
+    same-length-4
+    returns-4)

@@ -1,6 +1,7 @@
 use Prim.Native.Nat.{_≤_, _-_}
 use borrow.Author.Needs.{needs}
 use native.Mathlib.Omega.{arith}
+use Rattle.jobs.specs.Places.{Kept}
 use Rattle.jobs.proofs.listing.put_ecbs.Statement.{statement}
 use Rattle.jobs.proofs.listing.put_ecbs.Tie as tie
 use Rattle.jobs.proofs.listing.put_ecbs.Reads as reads
@@ -9,7 +10,7 @@ use Rattle.jobs.proofs.ecb_row.RawEcb.of.Reads as of-reads
 use Rattle.jobs.proofs.lines.put_ecb.Reads as put-ecb-reads
 
 abbrev Inv-loop : tie.InvT-loop
-Inv-loop out₀ at e k₀ i₀ out k i = i ≤ 64
+Inv-loop out₀ at e k₀ i₀ out k i = (i ≤ 64) × Kept at k
 
 abbrev μ-loop : tie.MeasureT-loop
 μ-loop out₀ at e k₀ i₀ out k i = 64 - i

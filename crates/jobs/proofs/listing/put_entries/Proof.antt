@@ -1,6 +1,7 @@
 use Prim.Native.Nat.{_≤_, _-_}
 use borrow.Author.Needs.{needs}
 use native.Mathlib.Omega.{arith}
+use Rattle.jobs.specs.Places.{Kept}
 use Rattle.jobs.proofs.listing.put_entries.Statement.{statement}
 use Rattle.jobs.proofs.listing.put_entries.Tie as tie
 use Rattle.jobs.proofs.listing.put_entries.Reads as reads
@@ -9,7 +10,7 @@ use Rattle.jobs.proofs.entry_row.RawEntry.of.Reads as of-reads
 use Rattle.jobs.proofs.lines.put_entry.Reads as put-entry-reads
 
 abbrev Inv-loop : tie.InvT-loop
-Inv-loop out₀ at q k₀ i₀ out k i = i ≤ 128
+Inv-loop out₀ at q k₀ i₀ out k i = (i ≤ 128) × Kept at k
 
 abbrev μ-loop : tie.MeasureT-loop
 μ-loop out₀ at q k₀ i₀ out k i = 128 - i

@@ -1,6 +1,7 @@
 use Prim.Native.Nat.{_≤_, _-_}
 use borrow.Author.Needs.{needs}
 use native.Mathlib.Omega.{arith}
+use Rattle.jobs.specs.Places.{Kept}
 use Rattle.jobs.proofs.listing.put_tasks.Statement.{statement}
 use Rattle.jobs.proofs.listing.put_tasks.Tie as tie
 use Rattle.jobs.proofs.listing.put_tasks.Reads as reads
@@ -9,7 +10,7 @@ use Rattle.jobs.proofs.lines.put_task.Reads as put-task-reads
 use Rattle.jobs.proofs.task_row.RawTask.of.Reads as of-reads
 
 abbrev Inv-loop : tie.InvT-loop
-Inv-loop out₀ at f k₀ i₀ out k i = i ≤ 32
+Inv-loop out₀ at f k₀ i₀ out k i = (i ≤ 32) × Kept at k
 
 abbrev μ-loop : tie.MeasureT-loop
 μ-loop out₀ at f k₀ i₀ out k i = 32 - i

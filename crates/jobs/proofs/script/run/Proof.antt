@@ -16,10 +16,10 @@ use Rattle.jobs.proofs.turn.taken.Reads as taken-reads
 use Rattle.services.proofs.Tables.fresh.Reads as fresh-reads
 
 abbrev Inv-loop : tie.InvT-loop
-Inv-loop block₀ out₀ tables₀ next₀ end₀ at₀ number₀ block out tables next end at number = (length block ≡ 65536) × (next ≤ end) × (end ≤ 65536)
+Inv-loop block₀ out₀ tables₀ next₀ end₀ at₀ number₀ ended₀ block out tables next end at number ended = (length block ≡ 65536) × (next ≤ end) × (end ≤ 65536)
 
 abbrev μ-loop : tie.MeasureT-loop
-μ-loop block₀ out₀ tables₀ next₀ end₀ at₀ number₀ block out tables next end at number = 18446744073709551615 - number
+μ-loop block₀ out₀ tables₀ next₀ end₀ at₀ number₀ ended₀ block out tables next end at number ended = 18446744073709551615 - number
 
 fresh-requires : tie.Need-fresh-requires Inv-loop μ-loop
 fresh-requires c κs = search needs
@@ -78,17 +78,14 @@ loop-less-2 c = omega arith
 loop-again-2 : tie.Need-loop-again-2 Inv-loop μ-loop
 loop-again-2 c = omega arith
 
-loop-less-3 : tie.Need-loop-less-3 Inv-loop μ-loop
-loop-less-3 c = omega arith
-
-loop-again-3 : tie.Need-loop-again-3 Inv-loop μ-loop
-loop-again-3 c = omega arith
-
 flush-requires : tie.Need-flush-requires Inv-loop μ-loop
 flush-requires c κs = search needs
 
 returns : tie.Need-returns Inv-loop μ-loop
-returns c = omega arith
+returns c = search needs
+
+returns-2 : tie.Need-returns-2 Inv-loop μ-loop
+returns-2 c = search needs
 
 pub run-spec : {M : Type 1} → statement M
 run-spec =
@@ -115,7 +112,6 @@ run-spec =
     dump-requires
     loop-less-2
     loop-again-2
-    loop-less-3
-    loop-again-3
     flush-requires
-    returns)
+    returns
+    returns-2)

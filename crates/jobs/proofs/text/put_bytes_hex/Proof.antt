@@ -2,6 +2,7 @@ use Prim.Native.Nat.{_≤_, _-_}
 use lib.ListN.{length}
 use borrow.Author.Needs.{needs}
 use native.Mathlib.Omega.{arith}
+use Rattle.jobs.specs.Places.{Kept}
 use Rattle.jobs.proofs.text.put_bytes_hex.Statement.{statement}
 use Rattle.jobs.proofs.text.put_bytes_hex.Tie as tie
 use Rattle.jobs.proofs.text.put_bytes_hex.Reads as reads
@@ -9,7 +10,7 @@ use Rattle.jobs.proofs.text.put_bytes_hex.Lts as lts
 use Rattle.jobs.proofs.text.put_hex.Reads as put-hex-reads
 
 abbrev Inv-loop : tie.InvT-loop
-Inv-loop out₀ at bytes k₀ i₀ out k i = i ≤ length bytes
+Inv-loop out₀ at bytes k₀ i₀ out k i = (i ≤ length bytes) × Kept at k
 
 abbrev μ-loop : tie.MeasureT-loop
 μ-loop out₀ at bytes k₀ i₀ out k i = length bytes - i

@@ -1,0 +1,90 @@
+-- Wrong answers that the contracts of `holdings` rule out. Assumes nothing.
+use Prim.Native.Nat.{ℕ}
+use mathlib.Core.Path.{refl}
+use mathlib.Core.Bool.{Bool, true, not}
+use mathlib.Core.List.{List, [], _∷_}
+use native.Mathlib.Omega.{arith}
+use lib.Dec.{eqb}
+use Rattle.lists.specs.Pick.{pick}
+use Rattle.lists.specs.Lists.{keep, every}
+use Rattle.kinds.specs.Tasks.{isReady}
+use Rattle.kinds.specs.declared.areas.Area.{Area}
+use Rattle.kinds.specs.declared.tasks.Task.{Task}
+use Rattle.kinds.specs.declared.tasks.MaybeEcb.the-variants.{Named}
+use Rattle.kinds.specs.declared.requests.Request.the-variants.{End}
+use Rattle.rules.specs.Family.{live, used, conditionOf}
+use Rattle.rules.specs.HandCases.{area}
+use Rattle.history.specs.Samples.{start}
+use Rattle.family.specs.Families.{familyOf}
+use Rattle.family.specs.declared.Family.{Family}
+use Rattle.storage.specs.Stored.{live as liveAreas, stored, Packed}
+use Rattle.storage.specs.Kept.{stored-packed}
+use Rattle.holdings.proofs.owners_good.Reads as owners-good
+use Rattle.holdings.proofs.sweep.Reads as sweep
+use Rattle.impostors.specs.Fitting.{_⊗_, fits-Family, fits-Storage, fits-end}
+use Rattle.impostors.specs.Opened.{tables-open}
+use Rattle.impostors.specs.Wrong.{RuledOut, wrong-at}
+use Rattle.impostors.specs.Samples.{task, ecb, alone, attach, daughter, wait, after}
+
+-- task 2, attached with an ECB, has ended; 2 waits for ECB 5
+abbrev ended : Family
+ended = familyOf (after start (attach 1 (Named (ecb 10)) ∷ alone (End (task 2) 0) ∷ []) .tasks)
+
+abbrev waiting : Family
+waiting = familyOf (after start (daughter 1 ∷ wait 2 1 (5 ∷ []) ∷ []) .tasks)
+
+-- 8 bytes of task 2 in subpool 5; 8 of the step
+abbrev ofTask2 : List Area
+ofTask2 = area 0 8 5 2 ∷ []
+
+abbrev ofStep : List Area
+ofStep = area 0 8 0 0 ∷ []
+
+packed-one : (x : Area) → Packed (stored (x ∷ []))
+packed-one x = stored-packed (x ∷ []) _ refl (omega arith)
+
+-- an area of subpool 0 is the step's, any other is judged by its owner; the same, but subpool 0 may be anyone's
+abbrev ownedAs : (List Task → ℕ → Bool) → List Task → Area → Bool
+ownedAs f ts y = pick (eqb (y .subpool) 0) (eqb (y .owner .0) 0) (f ts (y .owner .0))
+
+abbrev staysAs : (List Task → ℕ → Bool) → List Task → Area → Bool
+staysAs f ts y = pick (eqb (y .subpool) 0) true (f ts (y .owner .0))
+
+-- an ended task may own one
+pub owners-good-of-an-ended-task :
+    RuledOut (λ k. fits-Storage ⊗ fits-Family ⊗ fits-end) owners-good.Pre owners-good.Post (λ k a. every (ownedAs used (a .1 .0 .places)) (liveAreas (a .0)))
+unfolding tables-open
+owners-good-of-an-ended-task = wrong-at tt (stored ofTask2, (ended, tt)) refl (omega arith) (λ b. b) refl refl
+
+-- an area of subpool 0 may be a task's
+pub owners-good-of-subpool-0 :
+    RuledOut (λ k. fits-Storage ⊗ fits-Family ⊗ fits-end) owners-good.Pre owners-good.Post (λ k a. every (staysAs live (a .1 .0 .places)) (liveAreas (a .0)))
+unfolding tables-open
+owners-good-of-subpool-0 = wrong-at tt (stored (area 0 8 0 1 ∷ []), (ended, tt)) refl (omega arith) (λ b. b) refl refl
+
+-- an area of the step is refused, since no task owns it
+pub owners-good-not-of-the-step :
+    RuledOut (λ k. fits-Storage ⊗ fits-Family ⊗ fits-end) owners-good.Pre owners-good.Post
+    (λ k a. every (λ (y : Area). live (a .1 .0 .places) (y .owner .0)) (liveAreas (a .0)))
+unfolding tables-open
+owners-good-not-of-the-step = wrong-at tt (stored ofStep, (ended, tt)) refl (omega arith) not refl refl
+
+-- areas of subpool 0 go too
+pub sweep-subpool-0-too :
+    RuledOut (λ k. fits-Storage ⊗ fits-Family ⊗ fits-end) sweep.Pre sweep.Post
+    (λ k a. stored (keep (λ (y : Area). live (a .1 .0 .places) (y .owner .0)) (liveAreas (a .0))))
+unfolding tables-open
+sweep-subpool-0-too = wrong-at tt (stored ofStep, (ended, tt)) refl (packed-one _) (λ s. eqb (s .count) 0) refl refl
+
+-- those of an ended task stay
+pub sweep-not-of-the-ended :
+    RuledOut (λ k. fits-Storage ⊗ fits-Family ⊗ fits-end) sweep.Pre sweep.Post (λ k a. stored (keep (staysAs used (a .1 .0 .places)) (liveAreas (a .0))))
+unfolding tables-open
+sweep-not-of-the-ended = wrong-at tt (stored ofTask2, (ended, tt)) refl (packed-one _) (λ s. eqb (s .count) 1) refl refl
+
+-- those of a task that waits go too
+pub sweep-of-the-waiting-too :
+    RuledOut (λ k. fits-Storage ⊗ fits-Family ⊗ fits-end) sweep.Pre sweep.Post
+    (λ k a. stored (keep (staysAs (λ ts n. isReady (conditionOf ts n)) (a .1 .0 .places)) (liveAreas (a .0))))
+unfolding tables-open
+sweep-of-the-waiting-too = wrong-at tt (stored ofTask2, (waiting, tt)) refl (packed-one _) (λ s. eqb (s .count) 0) refl refl

@@ -1,0 +1,235 @@
+-- Wrong answers that the contracts of `rooms` rule out. Assumes nothing.
+use Prim.Native.Nat.{ℕ, zero, suc, _+_, _*_, _/_}
+use mathlib.Core.Path.{refl}
+use mathlib.Core.Bool.{Bool, true, false, not, cond, _&&_}
+use mathlib.Core.List.{List, [], _∷_}
+use native.Mathlib.Omega.{arith}
+use lib.Dec.{eqb, leb}
+use Rattle.lists.specs.Pick.{pick}
+use Rattle.lists.specs.Lists.{every, some}
+use Rattle.kinds.specs.Limits.{region, page, doubleword, mostAreas}
+use Rattle.kinds.specs.Ranges.{addressGood, lengthGood, subpoolGood}
+use Rattle.kinds.specs.Replies.{numberOf}
+use Rattle.kinds.specs.declared.areas.Area.{Area}
+use Rattle.kinds.specs.declared.numbers.TaskNumber.{TaskNumber}
+use Rattle.kinds.specs.declared.numbers.Address.{Address}
+use Rattle.kinds.specs.declared.numbers.Place.{Place}
+use Rattle.kinds.specs.declared.numbers.Place.the-variants.{At, Nowhere}
+use Rattle.kinds.specs.declared.replies.Fault.the-variants.{NoSuchArea}
+use Rattle.kinds.specs.declared.replies.Refusal.the-variants.{OutOfRange}
+use Rattle.kinds.specs.declared.replies.Reply.{Reply}
+use Rattle.kinds.specs.declared.replies.Reply.the-variants.{Done}
+use Rattle.kinds.specs.declared.replies.Verdict.{Verdict}
+use Rattle.kinds.specs.declared.replies.Verdict.the-variants.{Go, Refuse, Fail}
+use Rattle.rules.specs.Storage.{startOf, endOf, rounded, ownerIn, areaAt, oneHolder, bytesApart, apart, permitted, placedAt, lowest, sameArea}
+use Rattle.rules.specs.Getmain.{roomVerdict, wanted, getmainVerdict}
+use Rattle.rules.specs.Freemain.{isNamed, freemainVerdict}
+use Rattle.rules.specs.HandCases.{area}
+use Rattle.rules.specs.Table.{counted}
+use Rattle.storage.specs.Stored.{live, stored, Packed}
+use Rattle.storage.specs.Kept.{stored-packed}
+use Rattle.storage.specs.declared.Storage.{Storage}
+use Rattle.rooms.specs.Found.{placeFor, replyAt, putAt, gotBy, freedBy}
+use Rattle.rooms.specs.declared.Stored.{Stored}
+use Rattle.rooms.proofs.room.lowest.Reads as lowest-place
+use Rattle.rooms.proofs.asked.area_at.Reads as area-at
+use Rattle.rooms.proofs.getmain.got.Reads as got
+use Rattle.rooms.proofs.freemain.freed.Reads as freed
+use Rattle.impostors.specs.Fitting.{_⊗_, fits-Address, fits-Area, fits-Storage, fits-TaskNumber, fits-bool, fits-end, fits-u32, fits-u8}
+use Rattle.impostors.specs.Opened.{tables-open}
+use Rattle.impostors.specs.Wrong.{RuledOut, wrong-at}
+use Rattle.impostors.specs.Samples.{task}
+
+abbrev address : ℕ → Address
+address n = record { 0 = n }
+
+-- SAMPLES: 8 bytes of task 1 in subpool 5, and 104 in subpool 10, at 0; 128 areas of 8 bytes in subpool 10, from 0 on
+abbrev one : List Area
+one = area 0 8 5 1 ∷ []
+
+abbrev held : List Area
+held = area 0 104 10 1 ∷ []
+
+abbrev full : List Area
+full = counted (λ n. area (doubleword * n) doubleword 10 1) 0 mostAreas
+
+few : Packed (stored held)
+few = stored-packed held _ refl (omega arith)
+
+-- what is seen: the place is an address, the verdict is to go on
+abbrev at : ℕ → Place → Bool
+at n (At a) = eqb (a .0) n
+at n Nowhere = false
+
+abbrev goes : Verdict → Bool
+goes Go = true
+goes (Refuse why) = false
+goes (Fail what) = false
+
+-- THE SEARCH
+
+-- the first of so many addresses that passes, from s on by so much
+abbrev firstOf : (ℕ → Bool) → ℕ → ℕ → ℕ → Place
+firstOf p by zero s = Nowhere
+firstOf p by (suc tries) s = cond (p s) (At (address s)) (firstOf p by tries (s + by))
+
+-- the first doubleword of the region at which an area passes
+abbrev firstAt : (Area → Bool) → Area → Place
+firstAt p want = firstOf (λ s. p (placedAt want s)) doubleword (region / doubleword) 0
+
+-- only starts of pages are tried: 4,096, where 8 is free to the same holder
+pub lowest-at-a-page :
+    RuledOut (λ k. fits-Storage ⊗ fits-Area ⊗ fits-end) lowest-place.Pre lowest-place.Post
+    (λ k a. firstOf (λ s. permitted (live (a .0)) (placedAt (a .1 .0) s)) page (region / page) 0)
+unfolding tables-open
+lowest-at-a-page = wrong-at tt (stored one, (area 0 8 5 1, tt)) refl (omega arith) (at 4096) refl refl
+
+-- an area past all others
+abbrev pastAll : List Area → Area → Bool
+pastAll l x = every (λ (y : Area). leb (endOf y) (startOf x)) l
+
+-- room freed is never room: the search begins past all areas, and 0 to 7 are free below the one at 8
+pub lowest-past-the-last :
+    RuledOut (λ k. fits-Storage ⊗ fits-Area ⊗ fits-end) lowest-place.Pre lowest-place.Post
+    (λ k a. firstAt (λ x. pastAll (live (a .0)) x && permitted (live (a .0)) x) (a .1 .0))
+unfolding tables-open
+lowest-past-the-last = wrong-at tt (stored (area 8 8 5 1 ∷ []), (area 0 8 5 1, tt)) refl (omega arith) (at 16) refl refl
+
+-- only bytes are judged: 104 for subpool 5, on the page of subpool 10
+pub lowest-on-anothers-page :
+    RuledOut (λ k. fits-Storage ⊗ fits-Area ⊗ fits-end) lowest-place.Pre lowest-place.Post
+    (λ k a. firstAt (λ x. leb (endOf x) region && every (bytesApart x) (live (a .0))) (a .1 .0))
+unfolding tables-open
+lowest-on-anothers-page = wrong-at tt (stored held, (area 0 8 5 1, tt)) refl (omega arith) (at 104) refl refl
+
+-- the end of the region is not looked at: 131,072 bytes at 8, where 0 to 7 are taken
+pub lowest-beyond-the-region :
+    RuledOut (λ k. fits-Storage ⊗ fits-Area ⊗ fits-end) lowest-place.Pre lowest-place.Post (λ k a. firstAt (λ x. every (apart x) (live (a .0))) (a .1 .0))
+unfolding tables-open
+lowest-beyond-the-region = wrong-at tt (stored one, (area 0 131072 5 1, tt)) refl (omega arith) (at 8) refl refl
+
+-- THE AREA ASKED FOR
+
+-- the length is rounded down: 100 bytes take 96
+pub area-at-rounded-down :
+    RuledOut (λ k. fits-Address ⊗ fits-u32 ⊗ fits-u8 ⊗ fits-TaskNumber ⊗ fits-end) area-at.Pre area-at.Post
+    (λ k a. area (a .0 .0) (a .1 .0 / doubleword * doubleword) (a .1 .1 .0) (ownerIn (a .1 .1 .0) (a .1 .1 .1 .0 .0)))
+unfolding tables-open
+area-at-rounded-down = wrong-at tt (address 0, (100, (5, (task 1, tt)))) refl refl (λ x. eqb (x .size) 96) refl refl
+
+-- an area of subpool 0 is the caller's
+pub area-at-subpool-0-of-the-caller :
+    RuledOut (λ k. fits-Address ⊗ fits-u32 ⊗ fits-u8 ⊗ fits-TaskNumber ⊗ fits-end) area-at.Pre area-at.Post (λ k a. area (a .0 .0) (rounded (a .1 .0)) (a .1 .1 .0) (a .1 .1 .1 .0 .0))
+unfolding tables-open
+area-at-subpool-0-of-the-caller =
+    wrong-at tt (address 0, (8, (0, (task 1, tt)))) refl refl (λ x. eqb (x .owner .0) 1) refl refl
+
+-- GETMAIN: task 1 asks in subpool 10, conditionally or not
+abbrev Asks : Type 0
+Asks = Storage × (TaskNumber × (ℕ × (ℕ × (Bool × Unit {0}))))
+
+abbrev asks : List Area → ℕ → Bool → Asks
+asks l bytes conditional = (stored l, (task 1, (bytes, (10, (conditional, tt)))))
+
+-- the area, its place and the verdict of the rules
+abbrev areaOf : Asks → Area
+areaOf a = wanted (a .1 .1 .0) (a .1 .1 .1 .0) (a .1 .0 .0)
+
+abbrev placeOf : Asks → Place
+placeOf a = placeFor (live (a .0)) (a .1 .0) (a .1 .1 .0) (a .1 .1 .1 .0)
+
+abbrev verdictOf : Bool → Asks → Verdict
+verdictOf conditional a = getmainVerdict (live (a .0)) (a .1 .0) (a .1 .1 .0) (a .1 .1 .1 .0) conditional
+
+-- an answer with another reply and another place
+abbrev answered : Asks → Reply → Place → Stored
+answered a reply p = record { verdict = verdictOf (a .1 .1 .1 .1 .0) a; reply = reply; storage = putAt p (areaOf a) (a .0) }
+
+abbrev doneAt : Place → Reply
+doneAt (At p) = Done (p .0)
+doneAt Nowhere = Done 0
+
+abbrev atZero : Place → Place
+atZero (At p) = At (address 0)
+atZero Nowhere = Nowhere
+
+-- 0 where there is no room, and not 4: 131,072 bytes are asked for conditionally
+pub got-done-with-no-room : RuledOut (λ k. fits-Storage ⊗ fits-TaskNumber ⊗ fits-u32 ⊗ fits-u8 ⊗ fits-bool ⊗ fits-end) got.Pre got.Post (λ k a. answered a (doneAt (placeOf a)) (placeOf a))
+unfolding tables-open
+got-done-with-no-room = wrong-at tt (asks held 131072 true) refl few (λ r. eqb (numberOf (r .reply)) 0) refl refl
+
+-- every request is taken for a conditional one: no error 205
+pub got-4-if-unconditional : RuledOut (λ k. fits-Storage ⊗ fits-TaskNumber ⊗ fits-u32 ⊗ fits-u8 ⊗ fits-bool ⊗ fits-end) got.Pre got.Post (λ k a. gotBy (verdictOf true a) (placeOf a) (areaOf a) (a .0))
+unfolding tables-open
+got-4-if-unconditional = wrong-at tt (asks held 131072 false) refl few (λ r. goes (r .verdict)) refl refl
+
+-- the area is put in at 0, whatever address is answered: 104
+pub got-put-in-at-0 : RuledOut (λ k. fits-Storage ⊗ fits-TaskNumber ⊗ fits-u32 ⊗ fits-u8 ⊗ fits-bool ⊗ fits-end) got.Pre got.Post (λ k a. answered a (replyAt (placeOf a)) (atZero (placeOf a)))
+unfolding tables-open
+got-put-in-at-0 =
+    wrong-at tt (asks held 8 true) refl few (λ r. some (sameArea (area 0 8 10 1)) (live (r .storage))) refl refl
+
+-- the search, however many areas are in use
+abbrev goodAsk : Asks → Bool
+goodAsk a = lengthGood (a .1 .1 .0) && subpoolGood (a .1 .1 .1 .0)
+
+abbrev searched : Asks → Place
+searched a = pick (goodAsk a) (lowest (live (a .0)) (areaOf a)) Nowhere
+
+-- no 107: an address is answered with 128 areas in use
+pub got-of-a-full-table :
+    RuledOut (λ k. fits-Storage ⊗ fits-TaskNumber ⊗ fits-u32 ⊗ fits-u8 ⊗ fits-bool ⊗ fits-end) got.Pre got.Post
+    (λ k a. gotBy (pick (goodAsk a) (roomVerdict (searched a) (a .1 .1 .1 .1 .0)) (Refuse OutOfRange))
+    (searched a) (areaOf a) (a .0))
+unfolding tables-open
+got-of-a-full-table =
+    wrong-at tt (asks full 8 true) refl (stored-packed full _ refl (omega arith)) (λ r. goes (r .verdict)) refl refl
+
+-- FREEMAIN: a task frees so many bytes at 0 in subpool 10
+abbrev Frees : Type 0
+Frees = Storage × (TaskNumber × (Address × (ℕ × (ℕ × Unit {0}))))
+
+abbrev frees : ℕ → ℕ → Frees
+frees t bytes = (stored held, (task t, (address 0, (bytes, (10, tt)))))
+
+-- the area that is named, and the verdict
+abbrev named : Frees → Area
+named a = areaAt (a .1 .1 .0 .0) (a .1 .1 .1 .0) (a .1 .1 .1 .1 .0) (a .1 .0 .0)
+
+abbrev freeVerdict : Frees → Verdict
+freeVerdict a = freemainVerdict (live (a .0)) (a .1 .0) (a .1 .1 .0) (a .1 .1 .1 .0) (a .1 .1 .1 .1 .0)
+
+-- with another test of what is named
+abbrev freeing : (Area → Bool) → Frees → Stored
+freeing is a =
+    freedBy
+    (pick (addressGood (a .1 .1 .0 .0) && (lengthGood (a .1 .1 .1 .0) && subpoolGood (a .1 .1 .1 .1 .0)))
+    (pick (some is (live (a .0))) Go (Fail NoSuchArea)) (Refuse OutOfRange))
+    is (a .0)
+
+-- it says 0 and leaves the area
+pub freed-and-left :
+    RuledOut (λ k. fits-Storage ⊗ fits-TaskNumber ⊗ fits-Address ⊗ fits-u32 ⊗ fits-u8 ⊗ fits-end) freed.Pre freed.Post (λ k a. record { verdict = freeVerdict a; reply = Done 0; storage = a .0 })
+unfolding tables-open
+freed-and-left = wrong-at tt (frees 1 100) refl few (λ r. eqb (r .storage .count) 1) refl refl
+
+-- the length is not compared: who names the first 8 bytes frees all
+pub freed-a-part :
+    RuledOut (λ k. fits-Storage ⊗ fits-TaskNumber ⊗ fits-Address ⊗ fits-u32 ⊗ fits-u8 ⊗ fits-end) freed.Pre freed.Post
+    (λ k a. freeing (λ (x : Area). eqb (startOf (named a)) (startOf x) && oneHolder (named a) x) a)
+unfolding tables-open
+freed-a-part = wrong-at tt (frees 1 8) refl few (λ r. goes (r .verdict)) refl refl
+
+-- the length is not rounded, and 100 bytes do not match 104
+pub freed-not-rounded :
+    RuledOut (λ k. fits-Storage ⊗ fits-TaskNumber ⊗ fits-Address ⊗ fits-u32 ⊗ fits-u8 ⊗ fits-end) freed.Pre freed.Post
+    (λ k a. freeing (sameArea (area (startOf (named a)) (a .1 .1 .1 .0) (named a .subpool) (named a .owner .0))) a)
+unfolding tables-open
+freed-not-rounded = wrong-at tt (frees 1 100) refl few (λ r. not (goes (r .verdict))) refl refl
+
+-- whoever owns it: task 2 frees the area of task 1
+pub freed-of-another-task :
+    RuledOut (λ k. fits-Storage ⊗ fits-TaskNumber ⊗ fits-Address ⊗ fits-u32 ⊗ fits-u8 ⊗ fits-end) freed.Pre freed.Post
+    (λ k a. freeing (λ (x : Area). isNamed (x .owner) (a .1 .1 .0) (a .1 .1 .1 .0) (a .1 .1 .1 .1 .0) x) a)
+unfolding tables-open
+freed-of-another-task = wrong-at tt (frees 2 100) refl few (λ r. goes (r .verdict)) refl refl

@@ -2,11 +2,11 @@
 use Prim.Native.Nat.{ℕ}
 use mathlib.Core.Path.{_≡_, refl, ap}
 use mathlib.Core.Bool.{Bool, true, false, not}
-use mathlib.Core.List.{List, [], _∷_, map}
+use mathlib.Core.List.{List, [], _∷_}
 use lib.Dec.{eqb, leb}
 use Rattle.lists.specs.Lists.{some}
 use Rattle.kinds.specs.Replies.{refusalNumber}
-use Rattle.kinds.specs.Tasks.{withCondition, inResourceWait}
+use Rattle.kinds.specs.Tasks.{inResourceWait}
 use Rattle.kinds.specs.declared.tasks.Task.{Task}
 use Rattle.kinds.specs.declared.tasks.Condition.{Condition}
 use Rattle.kinds.specs.declared.tasks.Condition.the-variants.{Free, Ready, ResourceWait, EcbWait, Ended}
@@ -15,13 +15,13 @@ use Rattle.kinds.specs.declared.requests.Ret.the-variants.{None}
 use Rattle.kinds.specs.declared.requests.DeqRet.the-variants.{None as DeqNone}
 use Rattle.kinds.specs.declared.replies.Refusal.{Refusal}
 use Rattle.kinds.specs.declared.replies.Refusal.the-variants.{Unsound, OutOfRange, NotLive, Waits, ShortCodes, NoEntryFree, NoTaskFree, NoAreaFree, StepOver, WaitBitOn}
-use Rattle.rules.specs.Steps.{Step, Served}
+use Rattle.rules.specs.Steps.{Served}
 use Rattle.rules.specs.Table.{exc}
 use Rattle.rules.specs.Waits.{letGo}
 use Rattle.history.specs.Samples.{start, x}
 use Rattle.services.specs.declared.Tables.{Tables}
 use Rattle.impostors.specs.Opened.{tables-open}
-use Rattle.impostors.specs.Impostors.{Given, Service, Caught, caught, on, allGo, refusesAll, saysZero, copiesBack, grantsAtOnce}
+use Rattle.impostors.specs.Impostors.{Given, Service, Caught, ImpostorsCaught, caught, on, allGo, refusesAll, saysZero, copiesBack, grantsAtOnce}
 use Rattle.impostors.specs.Samples.{task, alone, enq, deq, after, owned, second, awaited}
 
 -- every refusal has a number of 100 or more
@@ -63,7 +63,8 @@ enq-by-2 = on (after start owned) second
 pub refusing-caught : (why : Given → Refusal) → Caught (refusesAll why)
 unfolding tables-open
 refusing-caught why =
-    caught (refusesAll why) (on start (alone Dispatch)) refl (λ o. leb 100 (o .outcome .number)) (refusals-high (why (on start (alone Dispatch)))) refl
+    caught (refusesAll why) (on start (alone Dispatch)) refl (λ o. leb 100 (o .outcome .number))
+    (refusals-high (why (on start (alone Dispatch)))) refl
 
 -- task 2 of a fresh step is not live, and its END is refused
 pub saying-zero-caught : (besides : Given → ℕ) (f : Service) → Caught (saysZero besides f)
@@ -79,10 +80,14 @@ copying-caught f = caught (copiesBack f) (on start (enq 1 None 0 (exc x ∷ []))
 pub granting-caught-at-enq : (f : Service) → Caught (grantsAtOnce f)
 unfolding tables-open
 granting-caught-at-enq f =
-    caught (grantsAtOnce f) enq-by-2 refl (λ o. not (somebodyWaits o)) (ap not (nobody-waits (f enq-by-2 .answer .tables .family .places))) refl
+    caught (grantsAtOnce f) enq-by-2 refl (λ o. not (somebodyWaits o))
+    (ap not (nobody-waits (f enq-by-2 .answer .tables .family .places))) refl
 
 -- 2 waits, and has to go on when task 1 gives x back
 pub granting-caught-at-deq : (f : Service) → Caught (grantsAtOnce f)
 unfolding tables-open
 granting-caught-at-deq f =
     caught (grantsAtOnce f) (on (after start awaited) (deq 1 DeqNone 0 (exc x ∷ []))) refl somebodyWaits refl refl
+
+pub impostors-caught : ImpostorsCaught
+impostors-caught = record { refusing = refusing-caught; saying-zero = saying-zero-caught; copying = copying-caught; granting = granting-caught-at-enq }

@@ -17,7 +17,8 @@ use Rattle.impostors.specs.Opened.{tables-open}
 use Rattle.impostors.specs.Wrong.{RuledOut, wrong-at}
 
 -- at its last byte: 8 bytes at 0 end at 7
-pub end-of-the-last-byte : RuledOut (λ k. fits-Area ⊗ fits-end) end-of.Pre end-of.Post (λ k a. startOf (a .0) + (a .0 .size - 1))
+pub end-of-the-last-byte : RuledOut (λ k. fits-Area ⊗ fits-end) end-of.Pre end-of.Post
+    (λ k a. startOf (a .0) + (a .0 .size - 1))
 end-of-the-last-byte = wrong-at tt (area 0 8 5 1, tt) refl tt (λ n. eqb n 7) refl refl
 
 -- counted from address 0: 8 bytes at 16 end at 8
@@ -36,7 +37,8 @@ unfolding tables-open
 apart-by-the-first-page = wrong-at tt (area 0 5000 10 1, (area 6144 8 5 1, tt)) refl tt (λ b. b) refl refl
 
 -- pages are not judged: subpools 5 and 10 of task 1 on one page
-pub apart-on-one-page : RuledOut (λ k. fits-Area ⊗ fits-Area ⊗ fits-end) apart.Pre apart.Post (λ k a. bytesApart (a .0) (a .1 .0))
+pub apart-on-one-page : RuledOut (λ k. fits-Area ⊗ fits-Area ⊗ fits-end) apart.Pre apart.Post
+    (λ k a. bytesApart (a .0) (a .1 .0))
 unfolding tables-open
 apart-on-one-page = wrong-at tt (area 0 8 5 1, (area 8 8 10 1, tt)) refl tt (λ b. b) refl refl
 

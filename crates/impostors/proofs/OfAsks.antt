@@ -11,7 +11,6 @@ use Rattle.lists.specs.Pick.{pick}
 use Rattle.lists.specs.Lists.{every, some}
 use Rattle.lists.specs.Tables.{padded}
 use Rattle.kinds.specs.Limits.{longestList, mostEntries}
-use Rattle.kinds.specs.Replies.{refusalNumber, faultNumber}
 use Rattle.kinds.specs.declared.numbers.TaskNumber.{TaskNumber}
 use Rattle.kinds.specs.declared.names.NameList.{NameList}
 use Rattle.kinds.specs.declared.requests.Ret.{Ret}
@@ -46,10 +45,7 @@ use Rattle.impostors.specs.Fitting.{_⊗_, fits-Codes, fits-DeqRet, fits
 use Rattle.impostors.specs.Opened.{tables-open}
 use Rattle.impostors.specs.Samples.{task, namesOf}
 use Rattle.impostors.specs.Wrong.{told-apart, RuledOut, wrong-at, RuledOutWith, wrong-with}
-
--- task 1 owns x, and 2 waits for it
-abbrev two : List Entry
-two = entryFor 1 (exc x) ∷ entryFor 2 (exc x) ∷ []
+use Rattle.impostors.specs.Parts.{ownerAndWaiter, lent, verdictNumber}
 
 -- the code behind n others
 abbrev code : ℕ → Codes → ℕ
@@ -88,11 +84,12 @@ fourFirst Have q c w = enqCode Have q c w
 fourFirst Chng q c w = enqCode Chng q c w
 
 -- task 1 tests x, which it owns
-pub enq-codes-4-before-8 : RuledOut (λ k. fits-Queue ⊗ fits-TaskNumber ⊗ fits-Ret ⊗ fits-NameList ⊗ fits-end) enq-codes.Pre enq-codes.Post
+pub enq-codes-4-before-8 :
+    RuledOut (λ k. fits-Queue ⊗ fits-TaskNumber ⊗ fits-Ret ⊗ fits-NameList ⊗ fits-end) enq-codes.Pre enq-codes.Post
     (λ k a. codesOf (map (fourFirst (a .1 .1 .0) (live (a .0)) (a .1 .0 .0)) (namesIn (a .1 .1 .1 .0) .asks)))
 unfolding tables-open
 enq-codes-4-before-8 =
-    wrong-at tt (stored two, (task 1, (Test, (namesOf (exc x ∷ []), tt)))) refl (omega arith, omega arith)
+    wrong-at tt (stored ownerAndWaiter, (task 1, (Test, (namesOf (exc x ∷ []), tt)))) refl (omega arith, omega arith)
     (λ k. eqb (code 0 k) 4) refl refl
 
 -- HAVE asks whether the name is available, as USE does
@@ -104,60 +101,63 @@ asUse Have = Use
 asUse Chng = Chng
 
 -- 3 asks for x, which task 1 owns
-pub enq-codes-have-as-use : RuledOut (λ k. fits-Queue ⊗ fits-TaskNumber ⊗ fits-Ret ⊗ fits-NameList ⊗ fits-end) enq-codes.Pre enq-codes.Post
+pub enq-codes-have-as-use :
+    RuledOut (λ k. fits-Queue ⊗ fits-TaskNumber ⊗ fits-Ret ⊗ fits-NameList ⊗ fits-end) enq-codes.Pre enq-codes.Post
     (λ k a. codesOf (enqCodes (asUse (a .1 .1 .0)) (live (a .0)) (a .1 .0 .0) (namesIn (a .1 .1 .1 .0))))
 unfolding tables-open
 enq-codes-have-as-use =
-    wrong-at tt (stored two, (task 3, (Have, (namesOf (exc x ∷ []), tt)))) refl (omega arith, omega arith)
+    wrong-at tt (stored ownerAndWaiter, (task 3, (Have, (namesOf (exc x ∷ []), tt)))) refl (omega arith, omega arith)
     (λ k. eqb (code 0 k) 4) refl refl
 
 -- the codes past the count are 8
-pub enq-codes-8-past-the-count : RuledOut (λ k. fits-Queue ⊗ fits-TaskNumber ⊗ fits-Ret ⊗ fits-NameList ⊗ fits-end) enq-codes.Pre enq-codes.Post
+pub enq-codes-8-past-the-count :
+    RuledOut (λ k. fits-Queue ⊗ fits-TaskNumber ⊗ fits-Ret ⊗ fits-NameList ⊗ fits-end) enq-codes.Pre enq-codes.Post
     (λ k a. record {
       bytes = padded longestList 8 (enqCodes (a .1 .1 .0) (live (a .0)) (a .1 .0 .0) (namesIn (a .1 .1 .1 .0)));
     })
 unfolding tables-open
 enq-codes-8-past-the-count =
-    wrong-at tt (stored two, (task 3, (Have, (namesOf (exc x ∷ []), tt)))) refl (omega arith, omega arith)
+    wrong-at tt (stored ownerAndWaiter, (task 3, (Have, (namesOf (exc x ∷ []), tt)))) refl (omega arith, omega arith)
     (λ k. eqb (code 1 k) 8) refl refl
 
 -- 0 and 8 are exchanged: task 1 gives x back
-pub deq-codes-exchanged : RuledOut (λ k. fits-Queue ⊗ fits-TaskNumber ⊗ fits-DeqRet ⊗ fits-NameList ⊗ fits-end) deq-codes.Pre deq-codes.Post
+pub deq-codes-exchanged :
+    RuledOut (λ k. fits-Queue ⊗ fits-TaskNumber ⊗ fits-DeqRet ⊗ fits-NameList ⊗ fits-end) deq-codes.Pre deq-codes.Post
     (λ k a. codesOf (map (λ (n : Resource). deqCodeBy (a .1 .1 .0) (not (hasEntry (live (a .0)) (a .1 .0 .0) n)))
     (resources (namesIn (a .1 .1 .1 .0)))))
 unfolding tables-open
 deq-codes-exchanged =
-    wrong-at tt (stored two, (task 1, (DeqHave, (namesOf (exc x ∷ []), tt)))) refl (omega arith, omega arith)
+    wrong-at tt (stored ownerAndWaiter, (task 1, (DeqHave, (namesOf (exc x ∷ []), tt)))) refl (omega arith, omega arith)
     (λ k. eqb (code 0 k) 8) refl refl
 
 -- an entry that lacks control is no entry: 2, who waits for x, gives it back
-pub deq-codes-of-owners-only : RuledOut (λ k. fits-Queue ⊗ fits-TaskNumber ⊗ fits-DeqRet ⊗ fits-NameList ⊗ fits-end) deq-codes.Pre deq-codes.Post
+pub deq-codes-of-owners-only :
+    RuledOut (λ k. fits-Queue ⊗ fits-TaskNumber ⊗ fits-DeqRet ⊗ fits-NameList ⊗ fits-end) deq-codes.Pre deq-codes.Post
     (λ k a. codesOf (deqCodes (a .1 .1 .0) (holding [] (live (a .0))) (a .1 .0 .0) (namesIn (a .1 .1 .1 .0))))
 unfolding tables-open
 deq-codes-of-owners-only =
-    wrong-at tt (stored two, (task 2, (DeqHave, (namesOf (exc x ∷ []), tt)))) refl (omega arith, omega arith)
+    wrong-at tt (stored ownerAndWaiter, (task 2, (DeqHave, (namesOf (exc x ∷ []), tt)))) refl (omega arith, omega arith)
     (λ k. eqb (code 0 k) 8) refl refl
 
--- a 4 counts as 0
-pub all-zero-with-a-4 : RuledOut (λ k. fits-Codes ⊗ fits-u32 ⊗ fits-end) all-zero.Pre all-zero.Post (λ k a. every (λ b. ltb b 8) (take (a .1 .0) (a .0 .bytes)))
+-- a code below 8 counts as 0: a 4
+pub all-zero-with-a-4 : RuledOut (λ k. fits-Codes ⊗ fits-u32 ⊗ fits-end) all-zero.Pre all-zero.Post
+    (λ k a. every (λ b. ltb b 8) (take (a .1 .0) (a .0 .bytes)))
 unfolding tables-open
 all-zero-with-a-4 = wrong-at tt (codes (4 ∷ []), (1, tt)) refl (omega arith) (λ b. b) refl refl
 
 -- the last code is not looked at: of 0 and 8, the 8
-pub all-zero-but-the-last : RuledOut (λ k. fits-Codes ⊗ fits-u32 ⊗ fits-end) all-zero.Pre all-zero.Post (λ k a. allZero (take (a .1 .0 - 1) (a .0 .bytes)))
+pub all-zero-but-the-last : RuledOut (λ k. fits-Codes ⊗ fits-u32 ⊗ fits-end) all-zero.Pre all-zero.Post
+    (λ k a. allZero (take (a .1 .0 - 1) (a .0 .bytes)))
 unfolding tables-open
 all-zero-but-the-last = wrong-at tt (codes (0 ∷ 8 ∷ []), (2, tt)) refl (omega arith) (λ b. b) refl refl
-
--- a codes area that is lent
-abbrev lent : List ℕ → RefT (List ℕ)
-lent l = record { ptr = (0, 0); name = 0; now = l }
 
 -- the area holds these bytes at the end
 abbrev leaves : Codes × (ℕ × (RefT (List ℕ) × Unit {0})) → List ℕ → Unit {0} × (Codes × (ℕ × (RefT (List ℕ) × Unit {0})))
 leaves a l = (tt, (a .0, (a .1 .0, (at-last (a .1 .1 .0) l, tt))))
 
 -- all 16 codes are written, where the list has one name
-pub write-all-16 : RuledOutWith (λ k. fits-Codes ⊗ fits-u32 ⊗ fits-lent ⊗ fits-end) write.Pre write.Post (λ k a. leaves a (writtenOn (a .0 .bytes) (now (a .1 .1 .0))))
+pub write-all-16 : RuledOutWith (λ k. fits-Codes ⊗ fits-u32 ⊗ fits-lent ⊗ fits-end) write.Pre write.Post
+    (λ k a. leaves a (writtenOn (a .0 .bytes) (now (a .1 .1 .0))))
 unfolding tables-open
 write-all-16 =
     wrong-with ([], tt) (codes (8 ∷ 4 ∷ []), (1, (lent (replicate 16 238), tt))) refl (omega arith, omega arith)
@@ -189,12 +189,6 @@ abbrev verdictBy : {K : Type 0} → (List Entry → ℕ → K → Names → ℕ 
     → Queue × (TaskNumber × (K × (NameList × (ℕ × Unit {0})))) → Verdict
 verdictBy f a = f (live (a .0)) (a .1 .0 .0) (a .1 .1 .0) (namesIn (a .1 .1 .1 .0)) (a .1 .1 .1 .1 .0)
 
--- the number that a verdict gives, or 0 to go on
-abbrev number : Verdict → ℕ
-number Go = 0
-number (Refuse why) = refusalNumber why
-number (Fail what) = faultNumber what
-
 -- the tests of ENQ in their order: 101, 104, 201, 105
 abbrev inTurn : Bool → Bool → Bool → Bool → Verdict
 inTurn bad short twice full =
@@ -221,11 +215,13 @@ shortFirst q c ret l room =
     (inTurn (bad ret l) false (duplicated ret q c l) (tooFewFree ret q c l))
 
 -- CHNG asks for x shared, with no codes area
-pub enq-verdict-104-before-101 : RuledOut (λ k. fits-Queue ⊗ fits-TaskNumber ⊗ fits-Ret ⊗ fits-NameList ⊗ fits-usize ⊗ fits-end) enq-verdict.Pre enq-verdict.Post (λ k a. verdictBy shortFirst a)
+pub enq-verdict-104-before-101 :
+    RuledOut (λ k. fits-Queue ⊗ fits-TaskNumber ⊗ fits-Ret ⊗ fits-NameList ⊗ fits-usize ⊗ fits-end) enq-verdict.Pre enq-verdict.Post
+    (λ k a. verdictBy shortFirst a)
 unfolding tables-open
 enq-verdict-104-before-101 =
-    wrong-of-room tt (stored two, (task 1, (Chng, (namesOf (shr x ∷ []), (0, tt))))) refl (omega arith)
-    (λ v. eqb (number v) 104) refl refl
+    wrong-of-room tt (stored ownerAndWaiter, (task 1, (Chng, (namesOf (shr x ∷ []), (0, tt))))) refl (omega arith)
+    (λ v. eqb (verdictNumber v) 104) refl refl
 
 -- a duplicate is an error under every RET kind
 abbrev everyDuplicate : List Entry → ℕ → Ret → Names → ℕ → Verdict
@@ -233,11 +229,13 @@ everyDuplicate q c ret l room =
     inTurn (bad ret l) (short (enqCodesDue ret) room l) (duplicated None q c l) (tooFewFree ret q c l)
 
 -- task 1 asks by USE for x, which it has
-pub enq-verdict-201-under-use : RuledOut (λ k. fits-Queue ⊗ fits-TaskNumber ⊗ fits-Ret ⊗ fits-NameList ⊗ fits-usize ⊗ fits-end) enq-verdict.Pre enq-verdict.Post (λ k a. verdictBy everyDuplicate a)
+pub enq-verdict-201-under-use :
+    RuledOut (λ k. fits-Queue ⊗ fits-TaskNumber ⊗ fits-Ret ⊗ fits-NameList ⊗ fits-usize ⊗ fits-end) enq-verdict.Pre enq-verdict.Post
+    (λ k a. verdictBy everyDuplicate a)
 unfolding tables-open
 enq-verdict-201-under-use =
-    wrong-of-room tt (stored two, (task 1, (Use, (namesOf (exc x ∷ []), (1, tt))))) refl (omega arith)
-    (λ v. eqb (number v) 201) refl refl
+    wrong-of-room tt (stored ownerAndWaiter, (task 1, (Use, (namesOf (exc x ∷ []), (1, tt))))) refl (omega arith)
+    (λ v. eqb (verdictNumber v) 201) refl refl
 
 -- one free place is enough for any list
 abbrev oneFree : List Entry → ℕ → Ret → Names → ℕ → Verdict
@@ -246,11 +244,13 @@ oneFree q c ret l room =
     (queuesAll ret && allZero (enqCodes ret q c l) && leb mostEntries (length q))
 
 -- 127 entries, and 2 asks for two names
-pub enq-verdict-one-free-is-enough : RuledOut (λ k. fits-Queue ⊗ fits-TaskNumber ⊗ fits-Ret ⊗ fits-NameList ⊗ fits-usize ⊗ fits-end) enq-verdict.Pre enq-verdict.Post (λ k a. verdictBy oneFree a)
+pub enq-verdict-one-free-is-enough :
+    RuledOut (λ k. fits-Queue ⊗ fits-TaskNumber ⊗ fits-Ret ⊗ fits-NameList ⊗ fits-usize ⊗ fits-end) enq-verdict.Pre enq-verdict.Post
+    (λ k a. verdictBy oneFree a)
 unfolding tables-open
 enq-verdict-one-free-is-enough =
     wrong-of-room tt (stored (long 127), (task 2, (None, (namesOf (exc x ∷ exc y ∷ []), (0, tt))))) refl (omega arith)
-    (λ v. eqb (number v) 0) refl refl
+    (λ v. eqb (verdictNumber v) 0) refl refl
 
 -- 105 goes before 201
 abbrev fullFirst : List Entry → ℕ → Ret → Names → ℕ → Verdict
@@ -259,11 +259,13 @@ fullFirst q c ret l room =
     (not (tooFewFree ret q c l) && duplicated ret q c l) (tooFewFree ret q c l)
 
 -- 128 entries, and task 1 asks for x, which it has
-pub enq-verdict-105-before-201 : RuledOut (λ k. fits-Queue ⊗ fits-TaskNumber ⊗ fits-Ret ⊗ fits-NameList ⊗ fits-usize ⊗ fits-end) enq-verdict.Pre enq-verdict.Post (λ k a. verdictBy fullFirst a)
+pub enq-verdict-105-before-201 :
+    RuledOut (λ k. fits-Queue ⊗ fits-TaskNumber ⊗ fits-Ret ⊗ fits-NameList ⊗ fits-usize ⊗ fits-end) enq-verdict.Pre enq-verdict.Post
+    (λ k a. verdictBy fullFirst a)
 unfolding tables-open
 enq-verdict-105-before-201 =
     wrong-of-room tt (stored (long 128), (task 1, (None, (namesOf (exc x ∷ []), (0, tt))))) refl (omega arith)
-    (λ v. eqb (number v) 105) refl refl
+    (λ v. eqb (verdictNumber v) 105) refl refl
 
 -- the tests of DEQ in their order: 101, 104, 202
 abbrev deqInTurn : Bool → Bool → Bool → Verdict
@@ -279,11 +281,13 @@ longer q c ret l room =
     deqInTurn (not (namesGood l)) (deqCodesDue ret && leb room (length (l .asks))) (unentered ret q c l)
 
 -- task 1 gives x back by HAVE, with an area of one byte
-pub deq-verdict-104-at-equal-length : RuledOut (λ k. fits-Queue ⊗ fits-TaskNumber ⊗ fits-DeqRet ⊗ fits-NameList ⊗ fits-usize ⊗ fits-end) deq-verdict.Pre deq-verdict.Post (λ k a. verdictBy longer a)
+pub deq-verdict-104-at-equal-length :
+    RuledOut (λ k. fits-Queue ⊗ fits-TaskNumber ⊗ fits-DeqRet ⊗ fits-NameList ⊗ fits-usize ⊗ fits-end) deq-verdict.Pre deq-verdict.Post
+    (λ k a. verdictBy longer a)
 unfolding tables-open
 deq-verdict-104-at-equal-length =
-    wrong-of-room tt (stored two, (task 1, (DeqHave, (namesOf (exc x ∷ []), (1, tt))))) refl (omega arith)
-    (λ v. eqb (number v) 104) refl refl
+    wrong-of-room tt (stored ownerAndWaiter, (task 1, (DeqHave, (namesOf (exc x ∷ []), (1, tt))))) refl (omega arith)
+    (λ v. eqb (verdictNumber v) 104) refl refl
 
 -- an entry for one of the names is enough
 abbrev oneEntered : List Entry → ℕ → DeqRet → Names → ℕ → Verdict
@@ -292,19 +296,24 @@ oneEntered q c ret l room =
     (unentered ret q c l && not (some (hasEntry q c) (resources l)))
 
 -- task 1 gives x and y back, and has x
-pub deq-verdict-one-entry-is-enough : RuledOut (λ k. fits-Queue ⊗ fits-TaskNumber ⊗ fits-DeqRet ⊗ fits-NameList ⊗ fits-usize ⊗ fits-end) deq-verdict.Pre deq-verdict.Post (λ k a. verdictBy oneEntered a)
+pub deq-verdict-one-entry-is-enough :
+    RuledOut (λ k. fits-Queue ⊗ fits-TaskNumber ⊗ fits-DeqRet ⊗ fits-NameList ⊗ fits-usize ⊗ fits-end) deq-verdict.Pre deq-verdict.Post
+    (λ k a. verdictBy oneEntered a)
 unfolding tables-open
 deq-verdict-one-entry-is-enough =
-    wrong-of-room tt (stored two, (task 1, (DeqNone, (namesOf (exc x ∷ exc y ∷ []), (0, tt))))) refl (omega arith)
-    (λ v. eqb (number v) 0) refl refl
+    wrong-of-room tt (stored ownerAndWaiter, (task 1, (DeqNone, (namesOf (exc x ∷ exc y ∷ []), (0, tt))))) refl
+    (omega arith)
+    (λ v. eqb (verdictNumber v) 0) refl refl
 
 -- a name without entry is an error under HAVE too
 abbrev everyMissing : List Entry → ℕ → DeqRet → Names → ℕ → Verdict
 everyMissing q c ret l room = deqInTurn (not (namesGood l)) (short (deqCodesDue ret) room l) (unentered DeqNone q c l)
 
 -- task 1 gives y back by HAVE, and has no entry for it
-pub deq-verdict-202-under-have : RuledOut (λ k. fits-Queue ⊗ fits-TaskNumber ⊗ fits-DeqRet ⊗ fits-NameList ⊗ fits-usize ⊗ fits-end) deq-verdict.Pre deq-verdict.Post (λ k a. verdictBy everyMissing a)
+pub deq-verdict-202-under-have :
+    RuledOut (λ k. fits-Queue ⊗ fits-TaskNumber ⊗ fits-DeqRet ⊗ fits-NameList ⊗ fits-usize ⊗ fits-end) deq-verdict.Pre deq-verdict.Post
+    (λ k a. verdictBy everyMissing a)
 unfolding tables-open
 deq-verdict-202-under-have =
-    wrong-of-room tt (stored two, (task 1, (DeqHave, (namesOf (exc y ∷ []), (1, tt))))) refl (omega arith)
-    (λ v. eqb (number v) 202) refl refl
+    wrong-of-room tt (stored ownerAndWaiter, (task 1, (DeqHave, (namesOf (exc y ∷ []), (1, tt))))) refl (omega arith)
+    (λ v. eqb (verdictNumber v) 202) refl refl

@@ -27,7 +27,7 @@ use Rattle.rules.specs.Family.{conditionOf}
 use Rattle.rules.specs.Steps.{Step}
 use Rattle.rules.specs.Sound.{soundStep}
 use Rattle.rules.specs.Admission.{gateOf, onGo, codesThrough}
-use Rattle.rules.specs.Table.{shr, exc}
+use Rattle.rules.specs.Table.{exc}
 use Rattle.rules.specs.Enq.{enqCodes, enqVerdict, enqWritten}
 use Rattle.rules.specs.Deq.{deqCodes, deqVerdict, deqWritten}
 use Rattle.laws.specs.Running.{running-parts}
@@ -44,7 +44,7 @@ use Rattle.claims.proofs.enq.claimed.Reads as claimed
 use Rattle.claims.proofs.deq.given_up.Reads as given-up
 use Rattle.impostors.specs.Fitting.{_⊗_, fits-DeqRet, fits-Family, fits-NameList, fits-Queue, fits-Ret, fits-TaskNumber, fits-end, fits-lent}
 use Rattle.impostors.specs.Opened.{tables-open}
-use Rattle.impostors.specs.Samples.{task, namesOf, daughter, enq, after}
+use Rattle.impostors.specs.Samples.{task, namesOf, after, owned as ownedRun, awaited as awaitedRun, sharedByOne}
 use Rattle.impostors.specs.Wrong.{told-apart, RuledOutWith}
 
 -- the parameters of ENQ and of DEQ
@@ -100,14 +100,14 @@ module _ {K : Type 0} {A R E W : K → Type 0} {T : (k : K) → A k → Bool} {Q
 
 -- task 1 owns x, and 2 is ready; then 2 waits for x
 abbrev owned : Step
-owned = after start (daughter 1 ∷ enq 1 None 0 (exc x ∷ []) ∷ [])
+owned = after start ownedRun
 
 abbrev awaited : Step
-awaited = after owned (enq 2 None 0 (exc x ∷ []) ∷ [])
+awaited = after start awaitedRun
 
 -- task 1 shares x
 abbrev shared : Step
-shared = after start (enq 1 None 0 (shr x ∷ []) ∷ [])
+shared = after start sharedByOne
 
 owned-packed : Packed (stored (owned .queue))
 unfolding tables-open
@@ -146,7 +146,8 @@ enqArea a =
     codesThrough Open (enqSays a) (area a) (enqWritten (queue a) (caller a) (ret a) (names a) (area a))
 
 -- the caller goes on without control: 2 asks for x
-pub claimed-goes-on-without-control : RuledOutWith (λ k. fits-Queue ⊗ fits-Family ⊗ fits-TaskNumber ⊗ fits-Ret ⊗ fits-NameList ⊗ fits-lent ⊗ fits-end) claimed.Pre claimed.Post
+pub claimed-goes-on-without-control :
+    RuledOutWith (λ k. fits-Queue ⊗ fits-Family ⊗ fits-TaskNumber ⊗ fits-Ret ⊗ fits-NameList ⊗ fits-lent ⊗ fits-end) claimed.Pre claimed.Post
     (λ k a. (withTables (enqAnswer a) (familyAsBefore a (enqAnswer a)), ends a (enqArea a)))
 unfolding tables-open
 claimed-goes-on-without-control =
@@ -164,7 +165,8 @@ byFirstCode a =
     (before a)
 
 -- 2 asks by USE for y and x, with the codes 0 and 4, and is queued for y
-pub claimed-by-the-first-code : RuledOutWith (λ k. fits-Queue ⊗ fits-Family ⊗ fits-TaskNumber ⊗ fits-Ret ⊗ fits-NameList ⊗ fits-lent ⊗ fits-end) claimed.Pre claimed.Post
+pub claimed-by-the-first-code :
+    RuledOutWith (λ k. fits-Queue ⊗ fits-Family ⊗ fits-TaskNumber ⊗ fits-Ret ⊗ fits-NameList ⊗ fits-lent ⊗ fits-end) claimed.Pre claimed.Post
     (λ k a. (withTables (enqAnswer a) (byFirstCode a), ends a (enqArea a)))
 unfolding tables-open
 claimed-by-the-first-code =
@@ -180,7 +182,8 @@ isChng Have = false
 isChng Chng = true
 
 -- CHNG changes nothing: task 1 shares x and asks for it exclusive
-pub claimed-chng-leaves-it-shared : RuledOutWith (λ k. fits-Queue ⊗ fits-Family ⊗ fits-TaskNumber ⊗ fits-Ret ⊗ fits-NameList ⊗ fits-lent ⊗ fits-end) claimed.Pre claimed.Post
+pub claimed-chng-leaves-it-shared :
+    RuledOutWith (λ k. fits-Queue ⊗ fits-Family ⊗ fits-TaskNumber ⊗ fits-Ret ⊗ fits-NameList ⊗ fits-lent ⊗ fits-end) claimed.Pre claimed.Post
     (λ k a. (withTables (enqAnswer a) (pick (isChng (ret a)) (before a) (enqAnswer a .tables)), ends a (enqArea a)))
 unfolding tables-open
 claimed-chng-leaves-it-shared =
@@ -189,7 +192,8 @@ claimed-chng-leaves-it-shared =
     (λ r. every (λ (e : Entry). not (e .exclusive)) (live (r .tables .queue))) refl refl
 
 -- NONE writes codes: 2 asks for y, with an area of one byte
-pub claimed-codes-under-none : RuledOutWith (λ k. fits-Queue ⊗ fits-Family ⊗ fits-TaskNumber ⊗ fits-Ret ⊗ fits-NameList ⊗ fits-lent ⊗ fits-end) claimed.Pre claimed.Post
+pub claimed-codes-under-none :
+    RuledOutWith (λ k. fits-Queue ⊗ fits-Family ⊗ fits-TaskNumber ⊗ fits-Ret ⊗ fits-NameList ⊗ fits-lent ⊗ fits-end) claimed.Pre claimed.Post
     (λ k a. (enqAnswer a, ends a (codesThrough Open (enqSays a) (area a) (writtenOn (enqCodesOf a) (area a)))))
 unfolding tables-open
 claimed-codes-under-none =
@@ -211,7 +215,8 @@ deqArea a =
     codesThrough Open (deqSays a) (area a) (deqWritten (queue a) (caller a) (ret a) (names a) (area a))
 
 -- nobody is granted what was released: task 1 gives x back, for which 2 waits
-pub given-up-grants-nothing : RuledOutWith (λ k. fits-Queue ⊗ fits-Family ⊗ fits-TaskNumber ⊗ fits-DeqRet ⊗ fits-NameList ⊗ fits-lent ⊗ fits-end) given-up.Pre given-up.Post
+pub given-up-grants-nothing :
+    RuledOutWith (λ k. fits-Queue ⊗ fits-Family ⊗ fits-TaskNumber ⊗ fits-DeqRet ⊗ fits-NameList ⊗ fits-lent ⊗ fits-end) given-up.Pre given-up.Post
     (λ k a. (withTables (deqAnswer a) (familyAsBefore a (deqAnswer a)), ends a (deqArea a)))
 unfolding tables-open
 given-up-grants-nothing =
@@ -220,7 +225,8 @@ given-up-grants-nothing =
     (λ r. inResourceWait (conditionOf (r .tables .family .places) 2)) refl refl
 
 -- the answer is 0 although a code is 8: task 1 gives y back, and has no entry for it
-pub given-up-says-0-with-a-code-8 : RuledOutWith (λ k. fits-Queue ⊗ fits-Family ⊗ fits-TaskNumber ⊗ fits-DeqRet ⊗ fits-NameList ⊗ fits-lent ⊗ fits-end) given-up.Pre given-up.Post
+pub given-up-says-0-with-a-code-8 :
+    RuledOutWith (λ k. fits-Queue ⊗ fits-Family ⊗ fits-TaskNumber ⊗ fits-DeqRet ⊗ fits-NameList ⊗ fits-lent ⊗ fits-end) given-up.Pre given-up.Post
     (λ k a. (record { verdict = deqSays a; reply = Done 0; tables = deqAnswer a .tables }, ends a (deqArea a)))
 unfolding tables-open
 given-up-says-0-with-a-code-8 =
@@ -228,7 +234,8 @@ given-up-says-0-with-a-code-8 =
     (owned-packed, admits owned (task 1) refl refl refl) (λ r. eqb (numberOf (r .reply)) 0) refl refl
 
 -- nothing is released unless every code is 0: task 1 gives x and y back by HAVE, and has x only
-pub given-up-all-or-nothing : RuledOutWith (λ k. fits-Queue ⊗ fits-Family ⊗ fits-TaskNumber ⊗ fits-DeqRet ⊗ fits-NameList ⊗ fits-lent ⊗ fits-end) given-up.Pre given-up.Post
+pub given-up-all-or-nothing :
+    RuledOutWith (λ k. fits-Queue ⊗ fits-Family ⊗ fits-TaskNumber ⊗ fits-DeqRet ⊗ fits-NameList ⊗ fits-lent ⊗ fits-end) given-up.Pre given-up.Post
     (λ k a. (
       withTables (deqAnswer a) (pick (allZero (deqCodesOf a)) (deqAnswer a .tables) (before a)),
       ends a (deqArea a),
@@ -239,7 +246,8 @@ given-up-all-or-nothing =
     (owned-packed, admits owned (task 1) refl refl refl) (λ r. hasEntry (live (r .tables .queue)) 1 x) refl refl
 
 -- the codes are found after the entries have gone: task 1 gives x back by HAVE, and the code is 8
-pub given-up-codes-after-the-release : RuledOutWith (λ k. fits-Queue ⊗ fits-Family ⊗ fits-TaskNumber ⊗ fits-DeqRet ⊗ fits-NameList ⊗ fits-lent ⊗ fits-end) given-up.Pre given-up.Post
+pub given-up-codes-after-the-release :
+    RuledOutWith (λ k. fits-Queue ⊗ fits-Family ⊗ fits-TaskNumber ⊗ fits-DeqRet ⊗ fits-NameList ⊗ fits-lent ⊗ fits-end) given-up.Pre given-up.Post
     (λ k a. (
       deqAnswer a,
       ends a (codesThrough Open (deqSays a) (area a)

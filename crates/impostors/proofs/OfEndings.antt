@@ -2,7 +2,6 @@
 use Prim.Native.Nat.{ℕ}
 use mathlib.Core.Path.{_≡_, refl}
 use mathlib.Core.Bool.{Bool, true, false, not, _&&_}
-use mathlib.Core.List.{[], _∷_}
 use lib.Dec.{eqb}
 use Rattle.lists.specs.Pick.{pick}
 use Rattle.lists.specs.Lists.{some}
@@ -12,10 +11,7 @@ use Rattle.kinds.specs.Ranges.{taskGood, endCodeGood}
 use Rattle.kinds.specs.declared.tasks.Task.{Task}
 use Rattle.kinds.specs.declared.tasks.Condition.{Condition}
 use Rattle.kinds.specs.declared.tasks.MaybeEcb.{MaybeEcb}
-use Rattle.kinds.specs.declared.tasks.MaybeEcb.the-variants.{Named}
 use Rattle.kinds.specs.declared.numbers.TaskNumber.{TaskNumber}
-use Rattle.kinds.specs.declared.requests.Request.the-variants.{End}
-use Rattle.kinds.specs.declared.requests.Ret.the-variants.{None}
 use Rattle.kinds.specs.declared.replies.Fault.the-variants.{NotSubtask, HasSubtasks}
 use Rattle.kinds.specs.declared.replies.Refusal.the-variants.{OutOfRange}
 use Rattle.kinds.specs.declared.replies.Gate.the-variants.{Open}
@@ -29,8 +25,7 @@ use Rattle.rules.specs.Admission.{gateOf}
 use Rattle.rules.specs.Detach.{detachVerdict}
 use Rattle.rules.specs.End.{endVerdict}
 use Rattle.rules.specs.Abend.{abendVerdict}
-use Rattle.rules.specs.Table.{exc}
-use Rattle.history.specs.Samples.{start, x}
+use Rattle.history.specs.Samples.{start}
 use Rattle.services.specs.Kept.{tablesOf, wholeIn, soundb}
 use Rattle.services.proofs.Glue.{caller-ends}
 use Rattle.endings.specs.Wholes.{stepIn, wholeOf, Ends, endedBy}
@@ -44,19 +39,20 @@ use Rattle.endings.proofs.services.abended.Reads as abended
 use Rattle.impostors.specs.Fitting.{_⊗_, fits-TaskNumber, fits-Whole, fits-bool, fits-end, fits-u16}
 use Rattle.impostors.specs.Opened.{tables-open}
 use Rattle.impostors.specs.Wrong.{RuledOut, wrong-at, Heeds, heeds}
-use Rattle.impostors.specs.Samples.{task, ecb, alone, attach, daughter, enq, after}
+use Rattle.impostors.specs.Samples.{task, after, motherWithEcb, daughterHoldsBack, undetached}
+use Rattle.impostors.specs.Parts.{goes}
 
--- SAMPLES: task 2, attached with ECB 10, has a daughter 3
+-- SAMPLES: 2, attached with ECB 10, has a daughter 3
 abbrev three : Step
-three = after start (attach 1 (Named (ecb 10)) ∷ daughter 2 ∷ [])
+three = after start motherWithEcb
 
 -- and 3 owns x, for which 4, a daughter of task 1, waits
 abbrev four : Step
-four = after three (daughter 1 ∷ enq 3 None 0 (exc x ∷ []) ∷ enq 4 None 0 (exc x ∷ []) ∷ [])
+four = after start daughterHoldsBack
 
 -- 2 has a daughter 3, attached with ECB 11, who has ended and is not detached
-abbrev undetached : Step
-undetached = after start (daughter 1 ∷ attach 2 (Named (ecb 11)) ∷ alone (End (task 3) 0) ∷ [])
+abbrev oneLeft : Step
+oneLeft = after start undetached
 
 abbrev whole : Step → Whole
 whole s = wholeIn (tablesOf s)
@@ -89,9 +85,9 @@ task-3-of-four : Ends (whole four) (task 3)
 unfolding tables-open
 task-3-of-four = ends four 3 sound-four refl
 
-task-2-undetached : Ends (whole undetached) (task 2)
+task-2-of-one-left : Ends (whole oneLeft) (task 2)
 unfolding tables-open
-task-2-undetached = ends undetached 2 refl refl
+task-2-of-one-left = ends oneLeft 2 refl refl
 
 -- what is seen: the condition of task n, ECB n posted with a code, a verdict to go on
 abbrev conditionIn : Whole → ℕ → Condition
@@ -100,18 +96,14 @@ conditionIn w n = conditionOf (w .family .places) n
 abbrev postedIn : Whole → ℕ → ℕ → Bool
 postedIn w n code = ecbAt (w .events .ecbs) n .complete && eqb (ecbAt (w .events .ecbs) n .code) code
 
-abbrev goes : Verdict → Bool
-goes Go = true
-goes (Refuse why) = false
-goes (Fail what) = false
-
 -- A STEP THAT IS OVER
 
 abbrev running : Step → Step
 running s = record { over = false; code = s .code; tasks = s .tasks; queue = s .queue; ecbs = s .ecbs; areas = s .areas }
 
 -- the tables say that the step runs
-pub over-with-a-step-that-runs : RuledOut (λ k. fits-u16 ⊗ fits-end) over-with.Pre over-with.Post (λ k a. wholeOf (running (overStep (a .0))))
+pub over-with-a-step-that-runs : RuledOut (λ k. fits-u16 ⊗ fits-end) over-with.Pre over-with.Post
+    (λ k a. wholeOf (running (overStep (a .0))))
 unfolding tables-open
 over-with-a-step-that-runs = wrong-at tt (7, tt) refl tt (λ w. not (w .over)) refl refl
 
@@ -122,11 +114,13 @@ over-with-code-0 = wrong-at tt (7, tt) refl tt (λ w. eqb (w .code) 0) refl refl
 
 -- task 1's place is not cleared
 pub over-with-task-1-left :
-    RuledOut (λ k. fits-u16 ⊗ fits-end) over-with.Pre over-with.Post (λ k a. wholeOf (withTasks (overStep (a .0)) (start .tasks)))
+    RuledOut (λ k. fits-u16 ⊗ fits-end) over-with.Pre over-with.Post
+    (λ k a. wholeOf (withTasks (overStep (a .0)) (start .tasks)))
 unfolding tables-open
 over-with-task-1-left = wrong-at tt (7, tt) refl tt (λ w. isLive (conditionIn w 1)) refl refl
 
--- AN ENDING: what is left where task c and all below it end, and its place becomes y; where c ends alone; where the others
+-- AN ENDING: what is left where task c and all below it end, and its place becomes y; where c ends alone; where the
+-- others
 -- wait on
 abbrev leftWith : Step → ℕ → Task → Step
 leftWith s c y = leftBy s (endTasks (s .tasks) c y)
@@ -168,12 +162,15 @@ abbrev end-of-3 : Ending
 end-of-3 = (whole four, (task 3, (7, tt)))
 
 -- the end of task 1 does not end the step
-pub ended-but-the-step : RuledOut (λ k. fits-Whole ⊗ fits-TaskNumber ⊗ fits-u16 ⊗ fits-end) ended-task.Pre ended-task.Post (λ k a. wholeOf (endedAs (ending leftWith) a))
+pub ended-but-the-step :
+    RuledOut (λ k. fits-Whole ⊗ fits-TaskNumber ⊗ fits-u16 ⊗ fits-end) ended-task.Pre ended-task.Post
+    (λ k a. wholeOf (endedAs (ending leftWith) a))
 unfolding tables-open
 ended-but-the-step = wrong-at tt end-of-1 refl task-1-alone (λ w. not (w .over)) refl refl
 
 -- the task ends alone: 3, below 2, stays
-pub ended-alone : RuledOut (λ k. fits-Whole ⊗ fits-TaskNumber ⊗ fits-u16 ⊗ fits-end) ended-task.Pre ended-task.Post (λ k a. wholeOf (endedAs (orOver (ending leftAlone)) a))
+pub ended-alone : RuledOut (λ k. fits-Whole ⊗ fits-TaskNumber ⊗ fits-u16 ⊗ fits-end) ended-task.Pre ended-task.Post
+    (λ k a. wholeOf (endedAs (orOver (ending leftAlone)) a))
 unfolding tables-open
 ended-alone = wrong-at tt end-of-2 refl task-2-of-three (λ w. isLive (conditionIn w 3)) refl refl
 
@@ -193,7 +190,8 @@ ended-and-free = wrong-at tt end-of-2 refl task-2-of-three (λ w. isFree (condit
 
 -- 3 ends, and 4, whom its entry held back, waits on
 pub ended-others-wait-on :
-    RuledOut (λ k. fits-Whole ⊗ fits-TaskNumber ⊗ fits-u16 ⊗ fits-end) ended-task.Pre ended-task.Post (λ k a. wholeOf (endedAs (orOver (ending leftWaiting)) a))
+    RuledOut (λ k. fits-Whole ⊗ fits-TaskNumber ⊗ fits-u16 ⊗ fits-end) ended-task.Pre ended-task.Post
+    (λ k a. wholeOf (endedAs (orOver (ending leftWaiting)) a))
 unfolding tables-open
 ended-others-wait-on = wrong-at tt end-of-3 refl task-3-of-four (λ w. inResourceWait (conditionIn w 4)) refl refl
 
@@ -209,8 +207,10 @@ abbrev detachedAs : (Step → ℕ → Step) → Detaching → Settled
 detachedAs f a =
     endedBy (detachVerdict (a .0 .family .places) (a .1 .0) (a .1 .1 .0)) (f (stepIn (a .0)) (a .1 .1 .0 .0)) (a .0)
 
--- the ECB of the subtask is posted
-pub detached-and-posted : RuledOut (λ k. fits-Whole ⊗ fits-TaskNumber ⊗ fits-TaskNumber ⊗ fits-end) detached-task.Pre detached-task.Post (λ k a. detachedAs (λ s n. ended s n 0) a)
+-- the subtask ends as by ABEND with code 0: its ECB is posted and its place is kept
+pub detached-and-posted :
+    RuledOut (λ k. fits-Whole ⊗ fits-TaskNumber ⊗ fits-TaskNumber ⊗ fits-end) detached-task.Pre detached-task.Post
+    (λ k a. detachedAs (λ s n. ended s n 0) a)
 unfolding tables-open
 detached-and-posted = wrong-at tt (detach 2) refl task-1-of-four (λ r. postedIn (r .tables) 10 0) refl refl
 
@@ -229,13 +229,16 @@ unfolding tables-open
 detached-further-down = wrong-at tt (detach 3) refl task-1-of-four (λ r. goes (r .verdict)) refl refl
 
 -- the subtask goes alone: 3, below 2, stays
-pub detached-alone : RuledOut (λ k. fits-Whole ⊗ fits-TaskNumber ⊗ fits-TaskNumber ⊗ fits-end) detached-task.Pre detached-task.Post (λ k a. detachedAs (λ s n. leftAlone s n noTask) a)
+pub detached-alone :
+    RuledOut (λ k. fits-Whole ⊗ fits-TaskNumber ⊗ fits-TaskNumber ⊗ fits-end) detached-task.Pre detached-task.Post
+    (λ k a. detachedAs (λ s n. leftAlone s n noTask) a)
 unfolding tables-open
 detached-alone = wrong-at tt (detach 2) refl task-1-of-four (λ r. isLive (conditionIn (r .tables) 3)) refl refl
 
 -- 4, whom the entry of 3 held back, waits on
 pub detached-others-wait-on :
-    RuledOut (λ k. fits-Whole ⊗ fits-TaskNumber ⊗ fits-TaskNumber ⊗ fits-end) detached-task.Pre detached-task.Post (λ k a. detachedAs (λ s n. leftWaiting s n noTask) a)
+    RuledOut (λ k. fits-Whole ⊗ fits-TaskNumber ⊗ fits-TaskNumber ⊗ fits-end) detached-task.Pre detached-task.Post
+    (λ k a. detachedAs (λ s n. leftWaiting s n noTask) a)
 unfolding tables-open
 detached-others-wait-on =
     wrong-at tt (detach 2) refl task-1-of-four (λ r. inResourceWait (conditionIn (r .tables) 4)) refl refl
@@ -251,7 +254,8 @@ unlessHas isOne a =
 
 -- subtasks do not stand in the way: 2, who has a daughter, ends
 pub ended-by-end-with-subtasks :
-    RuledOut (λ k. fits-Whole ⊗ fits-TaskNumber ⊗ fits-u16 ⊗ fits-end) ended-by-end.Pre ended-by-end.Post (λ k a. byEnd (unlessHas (λ y. false) a) ended a)
+    RuledOut (λ k. fits-Whole ⊗ fits-TaskNumber ⊗ fits-u16 ⊗ fits-end) ended-by-end.Pre ended-by-end.Post
+    (λ k a. byEnd (unlessHas (λ y. false) a) ended a)
 unfolding tables-open
 ended-by-end-with-subtasks = wrong-at tt end-of-2 refl task-2-of-three (λ r. goes (r .verdict)) refl refl
 
@@ -261,7 +265,7 @@ pub ended-by-end-with-ended-subtasks :
     (λ k a. byEnd (unlessHas (λ y. isLive (y .condition) && isSubtaskOf (a .1 .0 .0) y) a) ended a)
 unfolding tables-open
 ended-by-end-with-ended-subtasks =
-    wrong-at tt (whole undetached, (task 2, (7, tt))) refl task-2-undetached (λ r. goes (r .verdict)) refl refl
+    wrong-at tt (whole oneLeft, (task 2, (7, tt))) refl task-2-of-one-left (λ r. goes (r .verdict)) refl refl
 
 -- the end of task 1 does not end the step
 pub ended-by-end-but-the-step :
@@ -282,13 +286,15 @@ taskEnded a = ended (stepIn (a .0)) (a .1 .0 .0) (a .1 .1 .0)
 
 -- STEP is not looked at: 2 ends, and the step goes on
 pub abended-but-the-step :
-    RuledOut (λ k. fits-Whole ⊗ fits-TaskNumber ⊗ fits-u16 ⊗ fits-bool ⊗ fits-end) abended.Pre abended.Post (λ k a. endedBy (abendVerdict (a .1 .1 .0)) (taskEnded a) (a .0))
+    RuledOut (λ k. fits-Whole ⊗ fits-TaskNumber ⊗ fits-u16 ⊗ fits-bool ⊗ fits-end) abended.Pre abended.Post
+    (λ k a. endedBy (abendVerdict (a .1 .1 .0)) (taskEnded a) (a .0))
 unfolding tables-open
 abended-but-the-step = wrong-at tt (abend true) refl task-2-of-four (λ r. not (r .tables .over)) refl refl
 
 -- without STEP too the step ends
 pub abended-always-the-step :
-    RuledOut (λ k. fits-Whole ⊗ fits-TaskNumber ⊗ fits-u16 ⊗ fits-bool ⊗ fits-end) abended.Pre abended.Post (λ k a. endedBy (abendVerdict (a .1 .1 .0)) (overStep (a .1 .1 .0)) (a .0))
+    RuledOut (λ k. fits-Whole ⊗ fits-TaskNumber ⊗ fits-u16 ⊗ fits-bool ⊗ fits-end) abended.Pre abended.Post
+    (λ k a. endedBy (abendVerdict (a .1 .1 .0)) (overStep (a .1 .1 .0)) (a .0))
 unfolding tables-open
 abended-always-the-step = wrong-at tt (abend false) refl task-2-of-four (λ r. r .tables .over) refl refl
 
@@ -301,6 +307,8 @@ unfolding tables-open
 abended-not-with-subtasks = wrong-at tt (abend false) refl task-2-of-four (λ r. not (goes (r .verdict))) refl refl
 
 -- whoever does not look at STEP: no answer fits ABEND with it and without it
-pub abended-heeds-step : Heeds (λ k. fits-Whole ⊗ fits-TaskNumber ⊗ fits-u16 ⊗ fits-bool ⊗ fits-end) abended.Pre abended.Post
+pub abended-heeds-step :
+    Heeds (λ k. fits-Whole ⊗ fits-TaskNumber ⊗ fits-u16 ⊗ fits-bool ⊗ fits-end) abended.Pre abended.Post
 unfolding tables-open
-abended-heeds-step = heeds tt (abend true) (abend false) refl refl task-2-of-four task-2-of-four (λ r. r .tables .over) refl refl
+abended-heeds-step =
+    heeds tt (abend true) (abend false) refl refl task-2-of-four task-2-of-four (λ r. r .tables .over) refl refl

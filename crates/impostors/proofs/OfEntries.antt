@@ -24,7 +24,7 @@ use Rattle.impostors.specs.Opened.{tables-open}
 use Rattle.impostors.specs.Samples.{task, namesOf as listOf}
 use Rattle.impostors.specs.Wrong.{RuledOut, wrong-at}
 
--- task 1 has x and y shared, and 2 has x
+-- task 1 has x and y shared, and 2 has x shared
 abbrev three : List Entry
 three = entryFor 1 (shr x) ∷ entryFor 2 (shr x) ∷ entryFor 1 (shr y) ∷ []
 
@@ -41,7 +41,8 @@ abbrev exclusiveIf : (Entry → Bool) → Entry → Entry
 exclusiveIf test e = record { task = e .task; exclusive = test e || e .exclusive; name = e .name }
 
 -- every entry for the names goes, whoever's it is: task 1 gives x back, and 2 loses it too
-pub release-from-everybody : RuledOut (λ k. fits-Queue ⊗ fits-TaskNumber ⊗ fits-NameList ⊗ fits-end) release.Pre release.Post
+pub release-from-everybody :
+    RuledOut (λ k. fits-Queue ⊗ fits-TaskNumber ⊗ fits-NameList ⊗ fits-end) release.Pre release.Post
     (λ k a. stored (keep (λ (e : Entry). not (some (sameName (e .name)) (namesOf (namesIn (a .1 .1 .0)))))
     (live (a .0))))
 unfolding tables-open
@@ -50,7 +51,8 @@ release-from-everybody =
     (λ q. not (hasEntry (live q) 2 x)) refl refl
 
 -- only the first name is given back: of x and y, x
-pub release-first-name-only : RuledOut (λ k. fits-Queue ⊗ fits-TaskNumber ⊗ fits-NameList ⊗ fits-end) release.Pre release.Post
+pub release-first-name-only :
+    RuledOut (λ k. fits-Queue ⊗ fits-TaskNumber ⊗ fits-NameList ⊗ fits-end) release.Pre release.Post
     (λ k a. stored (released (a .1 .0 .0) (take 1 (namesOf (namesIn (a .1 .1 .0)))) (live (a .0))))
 unfolding tables-open
 release-first-name-only =
@@ -58,7 +60,8 @@ release-first-name-only =
     (λ q. hasEntry (live q) 1 y) refl refl
 
 -- all that the caller has goes: task 1 gives x back, and loses y too
-pub release-all-of-the-caller : RuledOut (λ k. fits-Queue ⊗ fits-TaskNumber ⊗ fits-NameList ⊗ fits-end) release.Pre release.Post
+pub release-all-of-the-caller :
+    RuledOut (λ k. fits-Queue ⊗ fits-TaskNumber ⊗ fits-NameList ⊗ fits-end) release.Pre release.Post
     (λ k a. stored (keep (λ (e : Entry). not (ofTask (a .1 .0 .0) e)) (live (a .0))))
 unfolding tables-open
 release-all-of-the-caller =
@@ -66,7 +69,8 @@ release-all-of-the-caller =
     (λ q. not (hasEntry (live q) 1 y)) refl refl
 
 -- the new entries come to the front: 2 asks for y behind task 1
-pub with-tail-at-the-front : RuledOut (λ k. fits-Queue ⊗ fits-TaskNumber ⊗ fits-NameList ⊗ fits-end) with-tail.Pre with-tail.Post
+pub with-tail-at-the-front :
+    RuledOut (λ k. fits-Queue ⊗ fits-TaskNumber ⊗ fits-NameList ⊗ fits-end) with-tail.Pre with-tail.Post
     (λ k a. stored (map (entryFor (a .1 .0 .0)) (namesIn (a .1 .1 .0) .asks) ++ live (a .0)))
 unfolding tables-open
 with-tail-at-the-front =
@@ -74,7 +78,8 @@ with-tail-at-the-front =
     (λ q. eqb (entryAt 0 q .task) 2) refl refl
 
 -- every entry is shared: 2 asks for y exclusive
-pub with-tail-all-shared : RuledOut (λ k. fits-Queue ⊗ fits-TaskNumber ⊗ fits-NameList ⊗ fits-end) with-tail.Pre with-tail.Post
+pub with-tail-all-shared :
+    RuledOut (λ k. fits-Queue ⊗ fits-TaskNumber ⊗ fits-NameList ⊗ fits-end) with-tail.Pre with-tail.Post
     (λ k a. stored (live (a .0)
     ++ map (λ (w : Ask). entryFor (a .1 .0 .0) (shr (w .name))) (namesIn (a .1 .1 .0) .asks)))
 unfolding tables-open
@@ -82,8 +87,10 @@ with-tail-all-shared =
     wrong-at tt (stored three, (task 2, (listOf (exc y ∷ []), tt))) refl (three-packed, omega arith, omega arith, refl)
     (λ q. not (entryAt 3 q .exclusive)) refl refl
 
--- the entries for the names become exclusive, whoever's they are: task 1 asks for x, and 2 has it exclusive
-pub made-exclusive-for-everybody : RuledOut (λ k. fits-Queue ⊗ fits-TaskNumber ⊗ fits-NameList ⊗ fits-end) made-exclusive.Pre made-exclusive.Post
+-- the entries for the names become exclusive, whoever's they are: task 1 asks for x, and 2's entry becomes exclusive
+-- too
+pub made-exclusive-for-everybody :
+    RuledOut (λ k. fits-Queue ⊗ fits-TaskNumber ⊗ fits-NameList ⊗ fits-end) made-exclusive.Pre made-exclusive.Post
     (λ k a. stored (map (exclusiveIf (λ (e : Entry). some (sameName (e .name)) (namesOf (namesIn (a .1 .1 .0)))))
     (live (a .0))))
 unfolding tables-open
@@ -91,16 +98,19 @@ made-exclusive-for-everybody =
     wrong-at tt (stored three, (task 1, (listOf (exc x ∷ []), tt))) refl (three-packed, omega arith)
     (λ q. entryAt 1 q .exclusive) refl refl
 
--- all that the caller has becomes exclusive: task 1 asks for x, and has y exclusive too
-pub made-exclusive-every-name : RuledOut (λ k. fits-Queue ⊗ fits-TaskNumber ⊗ fits-NameList ⊗ fits-end) made-exclusive.Pre made-exclusive.Post
+-- all that the caller has becomes exclusive: task 1 asks for x, and its entry for y becomes
+-- exclusive too
+pub made-exclusive-every-name :
+    RuledOut (λ k. fits-Queue ⊗ fits-TaskNumber ⊗ fits-NameList ⊗ fits-end) made-exclusive.Pre made-exclusive.Post
     (λ k a. stored (map (exclusiveIf (ofTask (a .1 .0 .0))) (live (a .0))))
 unfolding tables-open
 made-exclusive-every-name =
     wrong-at tt (stored three, (task 1, (listOf (exc x ∷ []), tt))) refl (three-packed, omega arith)
     (λ q. entryAt 2 q .exclusive) refl refl
 
--- the entries go to the tail: task 1 asks for x, and is no longer first
-pub made-exclusive-at-the-tail : RuledOut (λ k. fits-Queue ⊗ fits-TaskNumber ⊗ fits-NameList ⊗ fits-end) made-exclusive.Pre made-exclusive.Post
+-- the names are released and queued for again: task 1 asks for x, and is no longer first
+pub made-exclusive-at-the-tail :
+    RuledOut (λ k. fits-Queue ⊗ fits-TaskNumber ⊗ fits-NameList ⊗ fits-end) made-exclusive.Pre made-exclusive.Post
     (λ k a. stored (withTail (released (a .1 .0 .0) (namesOf (namesIn (a .1 .1 .0))) (live (a .0)))
     (a .1 .0 .0) (namesIn (a .1 .1 .0))))
 unfolding tables-open

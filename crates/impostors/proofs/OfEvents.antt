@@ -7,8 +7,7 @@ use native.Mathlib.Omega.{arith}
 use lib.Dec.{eqb, leb}
 use lib.ListN.{length, getD, set, take, replicate}
 use Rattle.lists.specs.Pick.{pick}
-use Rattle.lists.specs.Tables.{padded}
-use Rattle.lists.specs.Lists.{every}
+use Rattle.lists.specs.Lists.{every, howMany}
 use Rattle.kinds.specs.Limits.{highestTask, highestEcb, allEcbs, highestEndCode, highestPostCode}
 use Rattle.kinds.specs.Ranges.{endCodeGood, postCodeGood}
 use Rattle.kinds.specs.Ecbs.{noEcb}
@@ -31,33 +30,30 @@ use Rattle.impostors.specs.Fitting.{_⊗_, fits-Ecb, fits-EcbNumber, fit
 use Rattle.impostors.specs.Opened.{tables-open}
 use Rattle.impostors.specs.Wrong.{RuledOut, wrong-at, told-apart}
 use Rattle.impostors.specs.Samples.{task, ecb}
-
--- ECBS 0, 1 and so on, the others zero
-abbrev pub events : List Ecb → Events
-events l = eventsOf (padded allEcbs noEcb l)
-
--- task w waits on it
-abbrev pub awaited : ℕ → Ecb
-awaited w = record { waiter = task w; complete = false; code = 0 }
+use Rattle.impostors.specs.Parts.{events, awaited}
 
 -- ECB 63 alone is complete, with code 7
 abbrev lastComplete : Events
 lastComplete = eventsOf (set noEvents highestEcb (completedOf 7))
 
 -- task 1 waits on each
-pub empty-awaited-by-task-1 : RuledOut (λ k. fits-end) empty.Pre empty.Post (λ k a. eventsOf (replicate allEcbs (awaited 1)))
+pub empty-awaited-by-task-1 : RuledOut (λ k. fits-end) empty.Pre empty.Post
+    (λ k a. eventsOf (replicate allEcbs (awaited 1)))
 unfolding tables-open
 empty-awaited-by-task-1 = wrong-at tt tt refl tt (λ e. waitBit (ecbAt (e .ecbs) 0)) refl refl
 
 -- each is complete, with code 0
-pub empty-all-complete : RuledOut (λ k. fits-end) empty.Pre empty.Post (λ k a. eventsOf (replicate allEcbs (completedOf 0)))
+pub empty-all-complete : RuledOut (λ k. fits-end) empty.Pre empty.Post
+    (λ k a. eventsOf (replicate allEcbs (completedOf 0)))
 unfolding tables-open
 empty-all-complete = wrong-at tt tt refl tt (λ e. ecbAt (e .ecbs) 0 .complete) refl refl
 
 -- ECB n is looked up at place n - 1, as a task is: ECB 1 is complete, and ECB 0 comes back
-pub at-one-place-before : RuledOut (λ k. fits-Events ⊗ fits-EcbNumber ⊗ fits-end) at.Pre at.Post (λ k a. ecbAt (a .0 .ecbs) (a .1 .0 .0 - 1))
+pub at-one-place-before : RuledOut (λ k. fits-Events ⊗ fits-EcbNumber ⊗ fits-end) at.Pre at.Post
+    (λ k a. ecbAt (a .0 .ecbs) (a .1 .0 .0 - 1))
 unfolding tables-open
-at-one-place-before = wrong-at tt (events (noEcb ∷ completedOf 7 ∷ []), (ecb 1, tt)) refl tt (λ x. not (x .complete)) refl refl
+at-one-place-before =
+    wrong-at tt (events (noEcb ∷ completedOf 7 ∷ []), (ecb 1, tt)) refl tt (λ x. not (x .complete)) refl refl
 
 -- a number that has no ECB is taken for ECB 63
 pub at-64-is-ecb-63 : RuledOut (λ k. fits-Events ⊗ fits-EcbNumber ⊗ fits-end) at.Pre at.Post
@@ -78,9 +74,22 @@ unfolding tables-open
 word-bit-0-lowest = wrong-at tt (completedOf 7, tt) refl tt (eqb 30) refl refl
 
 -- the highest number is taken for the count: 64 ECBs do not fit
-pub ecbs-fit-when-63 : RuledOut (λ k. fits-Events ⊗ fits-end) ecbs-fit.Pre ecbs-fit.Post (λ k a. eqb (length (a .0 .ecbs)) highestEcb)
+pub ecbs-fit-when-63 : RuledOut (λ k. fits-Events ⊗ fits-end) ecbs-fit.Pre ecbs-fit.Post
+    (λ k a. eqb (length (a .0 .ecbs)) highestEcb)
 unfolding tables-open
 ecbs-fit-when-63 = wrong-at tt (events [], tt) refl tt not refl refl
+
+-- only complete ECBs are counted: none, and not 64
+pub ecbs-fit-counts-the-complete : RuledOut (λ k. fits-Events ⊗ fits-end) ecbs-fit.Pre ecbs-fit.Post
+    (λ k a. eqb (howMany (λ (e : Ecb). e .complete) (a .0 .ecbs)) allEcbs)
+unfolding tables-open
+ecbs-fit-counts-the-complete = record {
+  lifetimes = tt;
+  given = (events [], tt);
+  fitting = refl;
+  asked = tt;
+  broken = λ e p. told-apart p not refl refl;
+}
 
 -- an incomplete ECB may have a code
 pub words-good-incomplete-with-a-code : RuledOut (λ k. fits-Events ⊗ fits-end) words-good.Pre words-good.Post
@@ -93,9 +102,10 @@ words-good-incomplete-with-a-code =
 pub words-good-waited-on-and-complete : RuledOut (λ k. fits-Events ⊗ fits-end) words-good.Pre words-good.Post
     (λ k a. every (λ (x : Ecb). (x .complete || eqb (x .code) 0) && postCodeGood (x .code)) (a .0 .ecbs))
 unfolding tables-open
-words-good-waited-on-and-complete = wrong-at tt (events (withWaiter (completedOf 7) 2 ∷ []), tt) refl tt (λ b. b) refl refl
+words-good-waited-on-and-complete =
+    wrong-at tt (events (withWaiter (completedOf 7) 2 ∷ []), tt) refl tt (λ b. b) refl refl
 
--- a code may be of 31 bits
+-- a complete ECB may have any code
 pub words-good-any-code : RuledOut (λ k. fits-Events ⊗ fits-end) words-good.Pre words-good.Post
     (λ k a. every (λ (x : Ecb). not (waitBit x && x .complete) && (x .complete || eqb (x .code) 0)) (a .0 .ecbs))
 unfolding tables-open
@@ -108,7 +118,8 @@ unfolding tables-open
 all-zero-although-waited-on = wrong-at tt (events (awaited 2 ∷ []), tt) refl tt (λ b. b) refl refl
 
 -- ECB 63 is not looked at
-pub all-zero-but-ecb-63 : RuledOut (λ k. fits-Events ⊗ fits-end) all-zero.Pre all-zero.Post (λ k a. every zeroEcb (take highestEcb (a .0 .ecbs)))
+pub all-zero-but-ecb-63 : RuledOut (λ k. fits-Events ⊗ fits-end) all-zero.Pre all-zero.Post
+    (λ k a. every zeroEcb (take highestEcb (a .0 .ecbs)))
 unfolding tables-open
 all-zero-but-ecb-63 = wrong-at tt (lastComplete, tt) refl tt (λ b. b) refl refl
 
@@ -117,10 +128,12 @@ pub with-ecb-one-before : RuledOut (λ k. fits-Events ⊗ fits-EcbNumber ⊗ fit
     (λ k a. eventsOf (set (a .0 .ecbs) (a .1 .0 .0 - 1) (a .1 .1 .0)))
 unfolding tables-open
 with-ecb-one-before =
-    wrong-at tt (events [], (ecb 1, (completedOf 7, tt))) refl (omega arith) (λ e. not (ecbAt (e .ecbs) 1 .complete)) refl refl
+    wrong-at tt (events [], (ecb 1, (completedOf 7, tt))) refl (omega arith) (λ e. not (ecbAt (e .ecbs) 1 .complete))
+    refl refl
 
 -- a complete ECB stays as it is, here too: ECB 1 is not cleared
-pub with-ecb-not-when-complete : RuledOut (λ k. fits-Events ⊗ fits-EcbNumber ⊗ fits-Ecb ⊗ fits-end) with-ecb.Pre with-ecb.Post
+pub with-ecb-not-when-complete :
+    RuledOut (λ k. fits-Events ⊗ fits-EcbNumber ⊗ fits-Ecb ⊗ fits-end) with-ecb.Pre with-ecb.Post
     (λ k a. pick (ecbAt (a .0 .ecbs) (a .1 .0 .0) .complete) (a .0) (eventsOf (set (a .0 .ecbs) (a .1 .0 .0) (a .1 .1 .0))))
 unfolding tables-open
 with-ecb-not-when-complete =
@@ -140,18 +153,21 @@ unfolding tables-open
 completed-held-to-4095 = wrong-at tt (5000, tt) refl tt (λ x. eqb (x .code) 4095) refl refl
 
 -- every wait bit is off: that of task 3, where 2 no longer waits
-pub unwaited-all-of-everybody : RuledOut (λ k. fits-Events ⊗ fits-TaskNumber ⊗ fits-end) unwaited-all.Pre unwaited-all.Post
+pub unwaited-all-of-everybody :
+    RuledOut (λ k. fits-Events ⊗ fits-TaskNumber ⊗ fits-end) unwaited-all.Pre unwaited-all.Post
     (λ k a. eventsOf (map (λ (x : Ecb). withWaiter x 0) (a .0 .ecbs)))
 unfolding tables-open
 unwaited-all-of-everybody =
-    wrong-at tt (events (awaited 2 ∷ awaited 3 ∷ []), (task 2, tt)) refl tt (λ e. not (waitBit (ecbAt (e .ecbs) 1))) refl refl
+    wrong-at tt (events (awaited 2 ∷ awaited 3 ∷ []), (task 2, tt)) refl tt (λ e. not (waitBit (ecbAt (e .ecbs) 1)))
+    refl refl
 
 -- only the first that task w set is off
 abbrev firstOff : ℕ → List Ecb → List Ecb
 firstOff w [] = []
 firstOff w (x ∷ l) = pick (eqb (x .waiter .0) w) (withWaiter x 0 ∷ l) (x ∷ firstOff w l)
 
-pub unwaited-all-only-the-first : RuledOut (λ k. fits-Events ⊗ fits-TaskNumber ⊗ fits-end) unwaited-all.Pre unwaited-all.Post
+pub unwaited-all-only-the-first :
+    RuledOut (λ k. fits-Events ⊗ fits-TaskNumber ⊗ fits-end) unwaited-all.Pre unwaited-all.Post
     (λ k a. eventsOf (firstOff (a .1 .0 .0) (a .0 .ecbs)))
 unfolding tables-open
 unwaited-all-only-the-first =

@@ -7,19 +7,17 @@ use native.Mathlib.Omega.{arith}
 use lib.Dec.{eqb, leb}
 use lib.ListN.{getD, set, replicate}
 use Rattle.lists.specs.Pick.{pick}
-use Rattle.lists.specs.Tables.{padded}
 use Rattle.lists.specs.Lists.{every, howMany, firstAt, numbers}
 use Rattle.kinds.specs.Limits.{highestTask}
 use Rattle.kinds.specs.Tasks.{noTask, isFree, isLive, isReady}
 use Rattle.kinds.specs.declared.tasks.Task.{Task}
 use Rattle.kinds.specs.declared.tasks.Condition.{Condition}
-use Rattle.kinds.specs.declared.tasks.Condition.the-variants.{Free, Ready, ResourceWait, EcbWait, Ended}
-use Rattle.kinds.specs.declared.tasks.MaybeEcb.the-variants.{NoEcb, Named}
+use Rattle.kinds.specs.declared.tasks.Condition.the-variants.{Free, Ready}
+use Rattle.kinds.specs.declared.tasks.MaybeEcb.the-variants.{NoEcb}
 use Rattle.rules.specs.Family.{place, withPlace, conditionOf, used, directSubtask, below, chain}
 use Rattle.rules.specs.Dispatch.{noBetter}
 use Rattle.laws.specs.Wiping.{inUse}
 use Rattle.family.specs.Families.{familyOf}
-use Rattle.family.specs.declared.Family.{Family}
 use Rattle.family.proofs.choice.lowest_free.Reads as lowest-free
 use Rattle.family.proofs.choice.dispatched.Reads as dispatched
 use Rattle.family.proofs.empty.Reads as empty
@@ -32,31 +30,7 @@ use Rattle.impostors.specs.Fitting.{_⊗_, fits-Family, fits-Task, fits-
 use Rattle.impostors.specs.Opened.{tables-open}
 use Rattle.impostors.specs.Wrong.{RuledOut, wrong-at, told-apart}
 use Rattle.impostors.specs.Samples.{task, ecb}
-
--- FAMILIES: tasks 1, 2 and so on, the other places free
-abbrev pub family : List Task → Family
-family l = familyOf (padded highestTask noTask l)
-
--- a task 200/150 in this condition; task 1, which has no mother, and a task of this mother
-abbrev of : ℕ → Condition → Task
-of m k = record { condition = k; mother = task m; limit = 200; dispatching = 150; ecb = NoEcb }
-
-abbrev pub first : Task
-first = of 0 Ready
-
-abbrev pub ready : ℕ → Task
-ready m = of m Ready
-
--- it waits for an entry's control; for so many posts
-abbrev pub held : ℕ → Task
-held m = of m ResourceWait
-
-abbrev pub waiting : ℕ → ℕ → Task
-waiting m n = of m (EcbWait n)
-
--- it was attached with ECB 5, has ended, and is not detached
-abbrev pub ended : ℕ → Task
-ended m = record { condition = Ended; mother = task m; limit = 200; dispatching = 150; ecb = Named (ecb 5) }
+use Rattle.impostors.specs.Parts.{family, first, ready, waiting, ended}
 
 -- a ready daughter of task 1 with these priorities
 abbrev prior : ℕ → ℕ → Task
@@ -64,7 +38,8 @@ prior limit dispatching = record { condition = Ready; mother = task 1; limit = l
 
 -- the number is the count of the tasks in use, and one more: with 1 and 3 in use it is 3 and not 2
 pub lowest-free-counts-the-tasks :
-    RuledOut (λ k. fits-Family ⊗ fits-end) lowest-free.Pre lowest-free.Post (λ k a. task (howMany inUse (a .0 .places) + 1))
+    RuledOut (λ k. fits-Family ⊗ fits-end) lowest-free.Pre lowest-free.Post
+    (λ k a. task (howMany inUse (a .0 .places) + 1))
 unfolding tables-open
 lowest-free-counts-the-tasks = record {
   lifetimes = tt;
@@ -99,13 +74,15 @@ bestBy may by ts =
 
 -- the highest priority among all who are live: task 1, which waits, and not 2
 pub dispatched-a-waiting-task :
-    RuledOut (λ k. fits-Family ⊗ fits-end) dispatched.Pre dispatched.Post (λ k a. task (bestBy isLive (λ (x : Task). x .dispatching) (a .0 .places)))
+    RuledOut (λ k. fits-Family ⊗ fits-end) dispatched.Pre dispatched.Post
+    (λ k a. task (bestBy isLive (λ (x : Task). x .dispatching) (a .0 .places)))
 unfolding tables-open
 dispatched-a-waiting-task = wrong-at tt (family (waiting 0 1 ∷ ready 1 ∷ []), tt) refl tt (eqb 1) refl refl
 
 -- by the limit priority: task 1, 200/150, and not 2, 170/170
 pub dispatched-by-the-limit :
-    RuledOut (λ k. fits-Family ⊗ fits-end) dispatched.Pre dispatched.Post (λ k a. task (bestBy isReady (λ (x : Task). x .limit) (a .0 .places)))
+    RuledOut (λ k. fits-Family ⊗ fits-end) dispatched.Pre dispatched.Post
+    (λ k a. task (bestBy isReady (λ (x : Task). x .limit) (a .0 .places)))
 unfolding tables-open
 dispatched-by-the-limit = wrong-at tt (family (first ∷ prior 170 170 ∷ []), tt) refl tt (eqb 1) refl refl
 
@@ -121,45 +98,53 @@ unfolding tables-open
 empty-with-task-1 = wrong-at tt tt refl tt (λ f. isReady (conditionOf (f .places) 1)) refl refl
 
 -- task n is looked up at place n, as if there were a task 0: task 1 is free
-pub at-one-place-behind : RuledOut (λ k. fits-Family ⊗ fits-TaskNumber ⊗ fits-end) at.Pre at.Post (λ k a. getD (a .0 .places) (a .1 .0 .0) noTask)
+pub at-one-place-behind : RuledOut (λ k. fits-Family ⊗ fits-TaskNumber ⊗ fits-end) at.Pre at.Post
+    (λ k a. getD (a .0 .places) (a .1 .0 .0) noTask)
 unfolding tables-open
 at-one-place-behind = wrong-at tt (family (first ∷ []), (task 1, tt)) refl tt (λ x. isFree (x .condition)) refl refl
 
 -- number 0, which has no place, is taken for task 1
-pub at-0-is-task-1 : RuledOut (λ k. fits-Family ⊗ fits-TaskNumber ⊗ fits-end) at.Pre at.Post (λ k a. getD (a .0 .places) (a .1 .0 .0 - 1) noTask)
+pub at-0-is-task-1 : RuledOut (λ k. fits-Family ⊗ fits-TaskNumber ⊗ fits-end) at.Pre at.Post
+    (λ k a. getD (a .0 .places) (a .1 .0 .0 - 1) noTask)
 unfolding tables-open
 at-0-is-task-1 = wrong-at tt (family (first ∷ []), (task 0, tt)) refl tt (λ x. isReady (x .condition)) refl refl
 
 -- an ended task, not detached, is live
-pub is-live-when-ended : RuledOut (λ k. fits-Family ⊗ fits-TaskNumber ⊗ fits-end) is-live.Pre is-live.Post (λ k a. used (a .0 .places) (a .1 .0 .0))
+pub is-live-when-ended : RuledOut (λ k. fits-Family ⊗ fits-TaskNumber ⊗ fits-end) is-live.Pre is-live.Post
+    (λ k a. used (a .0 .places) (a .1 .0 .0))
 unfolding tables-open
 is-live-when-ended = wrong-at tt (family (first ∷ ended 1 ∷ []), (task 2, tt)) refl tt (λ b. b) refl refl
 
 -- a task that waits is not
-pub is-live-only-when-ready : RuledOut (λ k. fits-Family ⊗ fits-TaskNumber ⊗ fits-end) is-live.Pre is-live.Post (λ k a. isReady (conditionOf (a .0 .places) (a .1 .0 .0)))
+pub is-live-only-when-ready : RuledOut (λ k. fits-Family ⊗ fits-TaskNumber ⊗ fits-end) is-live.Pre is-live.Post
+    (λ k a. isReady (conditionOf (a .0 .places) (a .1 .0 .0)))
 unfolding tables-open
 is-live-only-when-ready = wrong-at tt (family (first ∷ waiting 1 1 ∷ []), (task 2, tt)) refl tt not refl refl
 
 -- the place of an ended task, not detached, is free
-pub in-use-only-when-live : RuledOut (λ k. fits-Task ⊗ fits-end) in-use.Pre in-use.Post (λ k a. isLive (a .0 .condition))
+pub in-use-only-when-live : RuledOut (λ k. fits-Task ⊗ fits-end) in-use.Pre in-use.Post
+    (λ k a. isLive (a .0 .condition))
 unfolding tables-open
 in-use-only-when-live = wrong-at tt (ended 1, tt) refl tt not refl refl
 
 -- a place without a mother is free, and so that of task 1
-pub in-use-only-with-a-mother : RuledOut (λ k. fits-Task ⊗ fits-end) in-use.Pre in-use.Post (λ k a. inUse (a .0) && not (eqb (a .0 .mother .0) 0))
+pub in-use-only-with-a-mother : RuledOut (λ k. fits-Task ⊗ fits-end) in-use.Pre in-use.Post
+    (λ k a. inUse (a .0) && not (eqb (a .0 .mother .0) 0))
 unfolding tables-open
 in-use-only-with-a-mother = wrong-at tt (first, tt) refl tt not refl refl
 
 -- x stands one place behind: task 1's place stays free
 pub with-place-one-behind :
-    RuledOut (λ k. fits-Family ⊗ fits-TaskNumber ⊗ fits-Task ⊗ fits-end) with-place.Pre with-place.Post (λ k a. familyOf (set (a .0 .places) (a .1 .0 .0) (a .1 .1 .0)))
+    RuledOut (λ k. fits-Family ⊗ fits-TaskNumber ⊗ fits-Task ⊗ fits-end) with-place.Pre with-place.Post
+    (λ k a. familyOf (set (a .0 .places) (a .1 .0 .0) (a .1 .1 .0)))
 unfolding tables-open
 with-place-one-behind =
     wrong-at tt (family [], (task 1, (first, tt))) refl (omega arith, omega arith)
     (λ f. isFree (conditionOf (f .places) 1)) refl refl
 
 -- a place in use is not written over: task 2, which is to be freed, stays
-pub with-place-only-where-free : RuledOut (λ k. fits-Family ⊗ fits-TaskNumber ⊗ fits-Task ⊗ fits-end) with-place.Pre with-place.Post
+pub with-place-only-where-free :
+    RuledOut (λ k. fits-Family ⊗ fits-TaskNumber ⊗ fits-Task ⊗ fits-end) with-place.Pre with-place.Post
     (λ k a. pick (used (a .0 .places) (a .1 .0 .0)) (a .0) (familyOf (withPlace (a .0 .places) (a .1 .0 .0) (a .1 .1 .0))))
 unfolding tables-open
 with-place-only-where-free =
@@ -171,18 +156,23 @@ abbrev onlyDaughters : List Task → ℕ → ℕ → Bool
 onlyDaughters ts c n = used ts n && (eqb n c || directSubtask ts c n)
 
 pub is-below-only-daughters :
-    RuledOut (λ k. fits-Family ⊗ fits-TaskNumber ⊗ fits-TaskNumber ⊗ fits-end) is-below.Pre is-below.Post (λ k a. onlyDaughters (a .0 .places) (a .1 .0 .0) (a .1 .1 .0 .0))
+    RuledOut (λ k. fits-Family ⊗ fits-TaskNumber ⊗ fits-TaskNumber ⊗ fits-end) is-below.Pre is-below.Post
+    (λ k a. onlyDaughters (a .0 .places) (a .1 .0 .0) (a .1 .1 .0 .0))
 unfolding tables-open
-is-below-only-daughters = wrong-at tt (family (first ∷ ready 1 ∷ ready 2 ∷ []), (task 1, (task 3, tt))) refl tt not refl refl
+is-below-only-daughters =
+    wrong-at tt (family (first ∷ ready 1 ∷ ready 2 ∷ []), (task 1, (task 3, tt))) refl tt not refl refl
 
 -- every number is below itself, also 2, whose place is free
-pub is-below-itself-when-free : RuledOut (λ k. fits-Family ⊗ fits-TaskNumber ⊗ fits-TaskNumber ⊗ fits-end) is-below.Pre is-below.Post
+pub is-below-itself-when-free :
+    RuledOut (λ k. fits-Family ⊗ fits-TaskNumber ⊗ fits-TaskNumber ⊗ fits-end) is-below.Pre is-below.Post
     (λ k a. eqb (a .1 .1 .0 .0) (a .1 .0 .0) || below (a .0 .places) (a .1 .0 .0) (a .1 .1 .0 .0))
 unfolding tables-open
 is-below-itself-when-free = wrong-at tt (family (first ∷ []), (task 2, (task 2, tt))) refl tt (λ b. b) refl refl
 
 -- the chain is left one task too early: each of 32 tasks is the daughter of the one before, and 32 is not below 1
-pub is-below-through-31-tasks : RuledOut (λ k. fits-Family ⊗ fits-TaskNumber ⊗ fits-TaskNumber ⊗ fits-end) is-below.Pre is-below.Post
+pub is-below-through-31-tasks :
+    RuledOut (λ k. fits-Family ⊗ fits-TaskNumber ⊗ fits-TaskNumber ⊗ fits-end) is-below.Pre is-below.Post
     (λ k a. chain 31 (a .0 .places) (λ n. eqb n (a .1 .0 .0)) (a .1 .1 .0 .0))
 unfolding tables-open
-is-below-through-31-tasks = wrong-at tt (familyOf (map ready (numbers 0 highestTask)), (task 1, (task 32, tt))) refl tt not refl refl
+is-below-through-31-tasks =
+    wrong-at tt (familyOf (map ready (numbers 0 highestTask)), (task 1, (task 32, tt))) refl tt not refl refl

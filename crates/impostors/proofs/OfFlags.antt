@@ -40,27 +40,32 @@ abbrev waited : List Entry
 waited = entryFor 1 (shr x) ∷ entryFor 2 (shr x) ∷ entryFor 3 (exc x) ∷ []
 
 -- all have to be set: one of two is
-pub some-set-all-of-them : RuledOut (λ k. fits-Flags ⊗ fits-u32 ⊗ fits-end) some-set.Pre some-set.Post (λ k a. allSet (a .0) (a .1 .0))
+pub some-set-all-of-them : RuledOut (λ k. fits-Flags ⊗ fits-u32 ⊗ fits-end) some-set.Pre some-set.Post
+    (λ k a. allSet (a .0) (a .1 .0))
 unfolding tables-open
 some-set-all-of-them = wrong-at tt (flags true false, (2, tt)) refl (omega arith) not refl refl
 
 -- a flag past n counts: the second of two is set, and n is 1
-pub some-set-one-past-n : RuledOut (λ k. fits-Flags ⊗ fits-u32 ⊗ fits-end) some-set.Pre some-set.Post (λ k a. someSet (a .0) (a .1 .0 + 1))
+pub some-set-one-past-n : RuledOut (λ k. fits-Flags ⊗ fits-u32 ⊗ fits-end) some-set.Pre some-set.Post
+    (λ k a. someSet (a .0) (a .1 .0 + 1))
 unfolding tables-open
 some-set-one-past-n = wrong-at tt (flags false true, (1, tt)) refl (omega arith) (λ b. b) refl refl
 
 -- one is enough: one of two is set
-pub all-set-one-is-enough : RuledOut (λ k. fits-Flags ⊗ fits-u32 ⊗ fits-end) all-set.Pre all-set.Post (λ k a. someSet (a .0) (a .1 .0))
+pub all-set-one-is-enough : RuledOut (λ k. fits-Flags ⊗ fits-u32 ⊗ fits-end) all-set.Pre all-set.Post
+    (λ k a. someSet (a .0) (a .1 .0))
 unfolding tables-open
 all-set-one-is-enough = wrong-at tt (flags true false, (2, tt)) refl (omega arith) (λ b. b) refl refl
 
 -- the flags past n count too: the first of two is set, and n is 1
-pub all-set-of-all-16 : RuledOut (λ k. fits-Flags ⊗ fits-u32 ⊗ fits-end) all-set.Pre all-set.Post (λ k a. every (λ (b : Bool). b) (a .0 .of))
+pub all-set-of-all-16 : RuledOut (λ k. fits-Flags ⊗ fits-u32 ⊗ fits-end) all-set.Pre all-set.Post
+    (λ k a. every (λ (b : Bool). b) (a .0 .of))
 unfolding tables-open
 all-set-of-all-16 = wrong-at tt (flags true false, (1, tt)) refl (omega arith) not refl refl
 
 -- anybody's entry counts: 4 asks for x
-pub entered-by-anybody : RuledOut (λ k. fits-Queue ⊗ fits-TaskNumber ⊗ fits-NameList ⊗ fits-end) entered.Pre entered.Post
+pub entered-by-anybody :
+    RuledOut (λ k. fits-Queue ⊗ fits-TaskNumber ⊗ fits-NameList ⊗ fits-end) entered.Pre entered.Post
     (λ k a. flagsOf (λ (w : Ask). some (λ (e : Entry). sameName (e .name) (w .name)) (live (a .0)))
     (namesIn (a .1 .1 .0)))
 unfolding tables-open
@@ -68,7 +73,8 @@ entered-by-anybody =
     wrong-at tt (stored waited, (task 4, (namesOf (shr x ∷ []), tt))) refl (omega arith, omega arith) flag refl refl
 
 -- only an entry that has control counts: 3, who waits for x, asks for it again
-pub entered-by-owners-only : RuledOut (λ k. fits-Queue ⊗ fits-TaskNumber ⊗ fits-NameList ⊗ fits-end) entered.Pre entered.Post
+pub entered-by-owners-only :
+    RuledOut (λ k. fits-Queue ⊗ fits-TaskNumber ⊗ fits-NameList ⊗ fits-end) entered.Pre entered.Post
     (λ k a. flagsOf (λ (w : Ask). hasEntry (holding [] (live (a .0))) (a .1 .0 .0) (w .name)) (namesIn (a .1 .1 .0)))
 unfolding tables-open
 entered-by-owners-only =
@@ -76,7 +82,8 @@ entered-by-owners-only =
     (λ f. not (flag f)) refl refl
 
 -- only an entry in the mode that is asked for counts: task 1, who shares x, asks for it exclusive
-pub entered-in-that-mode : RuledOut (λ k. fits-Queue ⊗ fits-TaskNumber ⊗ fits-NameList ⊗ fits-end) entered.Pre entered.Post
+pub entered-in-that-mode :
+    RuledOut (λ k. fits-Queue ⊗ fits-TaskNumber ⊗ fits-NameList ⊗ fits-end) entered.Pre entered.Post
     (λ k a. flagsOf (λ (w : Ask). some (λ (e : Entry). isFor (a .1 .0 .0) (w .name) e && alike (e .exclusive) (w .exclusive))
     (live (a .0)))
     (namesIn (a .1 .1 .0)))

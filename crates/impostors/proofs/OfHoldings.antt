@@ -10,8 +10,6 @@ use Rattle.lists.specs.Lists.{keep, every}
 use Rattle.kinds.specs.Tasks.{isReady}
 use Rattle.kinds.specs.declared.areas.Area.{Area}
 use Rattle.kinds.specs.declared.tasks.Task.{Task}
-use Rattle.kinds.specs.declared.tasks.MaybeEcb.the-variants.{Named}
-use Rattle.kinds.specs.declared.requests.Request.the-variants.{End}
 use Rattle.rules.specs.Family.{live, used, conditionOf}
 use Rattle.rules.specs.HandCases.{area}
 use Rattle.history.specs.Samples.{start}
@@ -24,14 +22,14 @@ use Rattle.holdings.proofs.sweep.Reads as sweep
 use Rattle.impostors.specs.Fitting.{_⊗_, fits-Family, fits-Storage, fits-end}
 use Rattle.impostors.specs.Opened.{tables-open}
 use Rattle.impostors.specs.Wrong.{RuledOut, wrong-at}
-use Rattle.impostors.specs.Samples.{task, ecb, alone, attach, daughter, wait, after}
+use Rattle.impostors.specs.Samples.{after, endedOnce, waitedOn}
 
--- task 2, attached with an ECB, has ended; 2 waits for ECB 5
+-- task 2, attached with an ECB, has ended; 2 waits on ECB 3
 abbrev ended : Family
-ended = familyOf (after start (attach 1 (Named (ecb 10)) ∷ alone (End (task 2) 0) ∷ []) .tasks)
+ended = familyOf (after start endedOnce .tasks)
 
 abbrev waiting : Family
-waiting = familyOf (after start (daughter 1 ∷ wait 2 1 (5 ∷ []) ∷ []) .tasks)
+waiting = familyOf (after start waitedOn .tasks)
 
 -- 8 bytes of task 2 in subpool 5; 8 of the step
 abbrev ofTask2 : List Area
@@ -52,13 +50,15 @@ staysAs f ts y = pick (eqb (y .subpool) 0) true (f ts (y .owner .0))
 
 -- an ended task may own one
 pub owners-good-of-an-ended-task :
-    RuledOut (λ k. fits-Storage ⊗ fits-Family ⊗ fits-end) owners-good.Pre owners-good.Post (λ k a. every (ownedAs used (a .1 .0 .places)) (liveAreas (a .0)))
+    RuledOut (λ k. fits-Storage ⊗ fits-Family ⊗ fits-end) owners-good.Pre owners-good.Post
+    (λ k a. every (ownedAs used (a .1 .0 .places)) (liveAreas (a .0)))
 unfolding tables-open
 owners-good-of-an-ended-task = wrong-at tt (stored ofTask2, (ended, tt)) refl (omega arith) (λ b. b) refl refl
 
 -- an area of subpool 0 may be a task's
 pub owners-good-of-subpool-0 :
-    RuledOut (λ k. fits-Storage ⊗ fits-Family ⊗ fits-end) owners-good.Pre owners-good.Post (λ k a. every (staysAs live (a .1 .0 .places)) (liveAreas (a .0)))
+    RuledOut (λ k. fits-Storage ⊗ fits-Family ⊗ fits-end) owners-good.Pre owners-good.Post
+    (λ k a. every (staysAs live (a .1 .0 .places)) (liveAreas (a .0)))
 unfolding tables-open
 owners-good-of-subpool-0 = wrong-at tt (stored (area 0 8 0 1 ∷ []), (ended, tt)) refl (omega arith) (λ b. b) refl refl
 
@@ -78,7 +78,8 @@ sweep-subpool-0-too = wrong-at tt (stored ofStep, (ended, tt)) refl (packed-one 
 
 -- those of an ended task stay
 pub sweep-not-of-the-ended :
-    RuledOut (λ k. fits-Storage ⊗ fits-Family ⊗ fits-end) sweep.Pre sweep.Post (λ k a. stored (keep (staysAs used (a .1 .0 .places)) (liveAreas (a .0))))
+    RuledOut (λ k. fits-Storage ⊗ fits-Family ⊗ fits-end) sweep.Pre sweep.Post
+    (λ k a. stored (keep (staysAs used (a .1 .0 .places)) (liveAreas (a .0))))
 unfolding tables-open
 sweep-not-of-the-ended = wrong-at tt (stored ofTask2, (ended, tt)) refl (packed-one _) (λ s. eqb (s .count) 1) refl refl
 
@@ -87,4 +88,5 @@ pub sweep-of-the-waiting-too :
     RuledOut (λ k. fits-Storage ⊗ fits-Family ⊗ fits-end) sweep.Pre sweep.Post
     (λ k a. stored (keep (staysAs (λ ts n. isReady (conditionOf ts n)) (a .1 .0 .places)) (liveAreas (a .0))))
 unfolding tables-open
-sweep-of-the-waiting-too = wrong-at tt (stored ofTask2, (waiting, tt)) refl (packed-one _) (λ s. eqb (s .count) 0) refl refl
+sweep-of-the-waiting-too =
+    wrong-at tt (stored ofTask2, (waiting, tt)) refl (packed-one _) (λ s. eqb (s .count) 0) refl refl

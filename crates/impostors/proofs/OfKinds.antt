@@ -14,7 +14,6 @@ use Rattle.kinds.specs.declared.numbers.TaskChecked.{TaskChecked}
 use Rattle.kinds.specs.declared.numbers.TaskChecked.the-variants.{GoodTask, BadTask}
 use Rattle.kinds.specs.declared.numbers.EcbChecked.{EcbChecked}
 use Rattle.kinds.specs.declared.numbers.EcbChecked.the-variants.{GoodEcb, BadEcb}
-use Rattle.kinds.specs.declared.numbers.Address.{Address}
 use Rattle.kinds.specs.declared.numbers.Place.{Place}
 use Rattle.kinds.specs.declared.numbers.Place.the-variants.{At, Nowhere}
 use Rattle.kinds.specs.declared.replies.Refusal.the-variants.{NotLive}
@@ -56,8 +55,9 @@ use Rattle.impostors.specs.Fitting.{_⊗_, fits-Address, fits-Condition,
 use Rattle.impostors.specs.Opened.{tables-open}
 use Rattle.impostors.specs.Samples.{task, ecb}
 use Rattle.impostors.specs.Wrong.{RuledOut, wrong-at}
+use Rattle.impostors.specs.Parts.{address}
 
--- A TEST says yes of one thing given, or no, and has to say the other
+-- A TEST that says yes of one thing given and has to say no, or no and has to say yes
 module _ {X : Type 0} {E : Unit {0} → Type 0} {T d f : (k : Unit {0}) → X × Unit {0} → Bool} (x : X) (t : T tt (x, tt) ≡ true) where
   passes : f tt (x, tt) ≡ true → d tt (x, tt) ≡ false → RuledOut {E = E} T (λ k a. Unit {0}) (λ k a r e. r ≡ d k a) f
   passes h n = wrong-at tt (x, tt) t tt (λ b. b) h n
@@ -65,9 +65,6 @@ module _ {X : Type 0} {E : Unit {0} → Type 0} {T d f : (k : Unit {0}) → X ×
   fails : not (f tt (x, tt)) ≡ true → not (d tt (x, tt)) ≡ false
       → RuledOut {E = E} T (λ k a. Unit {0}) (λ k a r e. r ≡ d k a) f
   fails h n = wrong-at tt (x, tt) t tt not h n
-
-abbrev address : ℕ → Address
-address n = record { 0 = n }
 
 -- AREAS
 
@@ -82,7 +79,8 @@ pub Area-zero-has-a-size : RuledOut (λ k. fits-end) Area-zero.Pre Area-zero.Pos
 Area-zero-has-a-size = wrong-at tt tt refl tt (λ x. eqb (x .size) 8) refl refl
 
 -- a length of 0 passes
-pub Area-length-good-zero-passes : RuledOut (λ k. fits-u32 ⊗ fits-end) Area-length-good.Pre Area-length-good.Post (λ k a. leb (a .0) region)
+pub Area-length-good-zero-passes : RuledOut (λ k. fits-u32 ⊗ fits-end) Area-length-good.Pre Area-length-good.Post
+    (λ k a. leb (a .0) region)
 unfolding tables-open
 Area-length-good-zero-passes = passes 0 refl refl refl
 
@@ -127,7 +125,8 @@ pub Ecb-zero-complete : RuledOut (λ k. fits-end) Ecb-zero.Pre Ecb-zero.Post
 Ecb-zero-complete = wrong-at tt tt refl tt (λ w. w .complete) refl refl
 
 -- 1,073,741,823 is refused
-pub Ecb-code-good-highest-refused : RuledOut (λ k. fits-u32 ⊗ fits-end) Ecb-code-good.Pre Ecb-code-good.Post (λ k a. ltb (a .0) highestPostCode)
+pub Ecb-code-good-highest-refused : RuledOut (λ k. fits-u32 ⊗ fits-end) Ecb-code-good.Pre Ecb-code-good.Post
+    (λ k a. ltb (a .0) highestPostCode)
 Ecb-code-good-highest-refused = fails 1073741823 refl refl refl
 
 -- 1,073,741,824 passes
@@ -138,7 +137,8 @@ Ecb-code-good-one-above-passes = passes 1073741824 refl refl refl
 -- NAMES
 
 -- an empty minor part passes
-pub Name-minor-good-empty-passes : RuledOut (λ k. fits-u16 ⊗ fits-end) Name-minor-good.Pre Name-minor-good.Post (λ k a. leb (a .0) longestMinor)
+pub Name-minor-good-empty-passes : RuledOut (λ k. fits-u16 ⊗ fits-end) Name-minor-good.Pre Name-minor-good.Post
+    (λ k a. leb (a .0) longestMinor)
 unfolding tables-open
 Name-minor-good-empty-passes = passes 0 refl refl refl
 
@@ -155,19 +155,22 @@ unfolding tables-open
 Name-minor-good-one-above-passes = passes 45 refl refl refl
 
 -- a list of nothing passes
-pub NameList-count-good-zero-passes : RuledOut (λ k. fits-u32 ⊗ fits-end) NameList-count-good.Pre NameList-count-good.Post
+pub NameList-count-good-zero-passes :
+    RuledOut (λ k. fits-u32 ⊗ fits-end) NameList-count-good.Pre NameList-count-good.Post
     (λ k a. leb (a .0) longestList)
 unfolding tables-open
 NameList-count-good-zero-passes = passes 0 refl refl refl
 
 -- a full list, of 16, is refused
-pub NameList-count-good-highest-refused : RuledOut (λ k. fits-u32 ⊗ fits-end) NameList-count-good.Pre NameList-count-good.Post
+pub NameList-count-good-highest-refused :
+    RuledOut (λ k. fits-u32 ⊗ fits-end) NameList-count-good.Pre NameList-count-good.Post
     (λ k a. between 1 (longestList - 1) (a .0))
 unfolding tables-open
 NameList-count-good-highest-refused = fails 16 refl refl refl
 
 -- a list of 17 passes
-pub NameList-count-good-one-above-passes : RuledOut (λ k. fits-u32 ⊗ fits-end) NameList-count-good.Pre NameList-count-good.Post
+pub NameList-count-good-one-above-passes :
+    RuledOut (λ k. fits-u32 ⊗ fits-end) NameList-count-good.Pre NameList-count-good.Post
     (λ k a. between 1 (longestList + 1) (a .0))
 unfolding tables-open
 NameList-count-good-one-above-passes = passes 17 refl refl refl
@@ -175,19 +178,22 @@ NameList-count-good-one-above-passes = passes 17 refl refl refl
 -- NUMBERS
 
 -- 0, which stands where there is no task, passes
-pub TaskNumber-is-good-zero-passes : RuledOut (λ k. fits-TaskNumber ⊗ fits-end) TaskNumber-is-good.Pre TaskNumber-is-good.Post
+pub TaskNumber-is-good-zero-passes :
+    RuledOut (λ k. fits-TaskNumber ⊗ fits-end) TaskNumber-is-good.Pre TaskNumber-is-good.Post
     (λ k a. leb (a .0 .0) highestTask)
 unfolding tables-open
 TaskNumber-is-good-zero-passes = passes (task 0) refl refl refl
 
 -- task 32 is refused
-pub TaskNumber-is-good-highest-refused : RuledOut (λ k. fits-TaskNumber ⊗ fits-end) TaskNumber-is-good.Pre TaskNumber-is-good.Post
+pub TaskNumber-is-good-highest-refused :
+    RuledOut (λ k. fits-TaskNumber ⊗ fits-end) TaskNumber-is-good.Pre TaskNumber-is-good.Post
     (λ k a. between 1 (highestTask - 1) (a .0 .0))
 unfolding tables-open
 TaskNumber-is-good-highest-refused = fails (task 32) refl refl refl
 
 -- task 33 passes
-pub TaskNumber-is-good-one-above-passes : RuledOut (λ k. fits-TaskNumber ⊗ fits-end) TaskNumber-is-good.Pre TaskNumber-is-good.Post
+pub TaskNumber-is-good-one-above-passes :
+    RuledOut (λ k. fits-TaskNumber ⊗ fits-end) TaskNumber-is-good.Pre TaskNumber-is-good.Post
     (λ k a. between 1 (highestTask + 1) (a .0 .0))
 unfolding tables-open
 TaskNumber-is-good-one-above-passes = passes (task 33) refl refl refl
@@ -219,22 +225,26 @@ unfolding tables-open
 TaskNumber-new-one-above-passes = wrong-at tt (33, tt) refl tt isTask refl refl
 
 -- the number is cut to a byte before it is tested: 257 makes task 1
-pub TaskNumber-new-cut-to-a-byte : RuledOut (λ k. fits-u32 ⊗ fits-end) TaskNumber-new.Pre TaskNumber-new.Post (λ k a. taskChecked (a .0 % 256))
+pub TaskNumber-new-cut-to-a-byte : RuledOut (λ k. fits-u32 ⊗ fits-end) TaskNumber-new.Pre TaskNumber-new.Post
+    (λ k a. taskChecked (a .0 % 256))
 unfolding tables-open
 TaskNumber-new-cut-to-a-byte = wrong-at tt (257, tt) refl tt isTask refl refl
 
 -- ECB 63 is refused
-pub EcbNumber-is-good-highest-refused : RuledOut (λ k. fits-EcbNumber ⊗ fits-end) EcbNumber-is-good.Pre EcbNumber-is-good.Post
+pub EcbNumber-is-good-highest-refused :
+    RuledOut (λ k. fits-EcbNumber ⊗ fits-end) EcbNumber-is-good.Pre EcbNumber-is-good.Post
     (λ k a. ltb (a .0 .0) highestEcb)
 EcbNumber-is-good-highest-refused = fails (ecb 63) refl refl refl
 
 -- ECB 64 passes
-pub EcbNumber-is-good-one-above-passes : RuledOut (λ k. fits-EcbNumber ⊗ fits-end) EcbNumber-is-good.Pre EcbNumber-is-good.Post
+pub EcbNumber-is-good-one-above-passes :
+    RuledOut (λ k. fits-EcbNumber ⊗ fits-end) EcbNumber-is-good.Pre EcbNumber-is-good.Post
     (λ k a. leb (a .0 .0) (highestEcb + 1))
 EcbNumber-is-good-one-above-passes = passes (ecb 64) refl refl refl
 
 -- ECB 0 is refused, as task 0 is
-pub EcbNumber-is-good-zero-refused : RuledOut (λ k. fits-EcbNumber ⊗ fits-end) EcbNumber-is-good.Pre EcbNumber-is-good.Post
+pub EcbNumber-is-good-zero-refused :
+    RuledOut (λ k. fits-EcbNumber ⊗ fits-end) EcbNumber-is-good.Pre EcbNumber-is-good.Post
     (λ k a. between 1 highestEcb (a .0 .0))
 unfolding tables-open
 EcbNumber-is-good-zero-refused = fails (ecb 0) refl refl refl
@@ -260,7 +270,8 @@ unfolding tables-open
 EcbNumber-new-one-above-passes = wrong-at tt (64, tt) refl tt isEcb refl refl
 
 -- the number is cut to a byte before it is tested: 256 makes ECB 0
-pub EcbNumber-new-cut-to-a-byte : RuledOut (λ k. fits-u32 ⊗ fits-end) EcbNumber-new.Pre EcbNumber-new.Post (λ k a. ecbChecked (a .0 % 256))
+pub EcbNumber-new-cut-to-a-byte : RuledOut (λ k. fits-u32 ⊗ fits-end) EcbNumber-new.Pre EcbNumber-new.Post
+    (λ k a. ecbChecked (a .0 % 256))
 unfolding tables-open
 EcbNumber-new-cut-to-a-byte = wrong-at tt (256, tt) refl tt isEcb refl refl
 
@@ -270,7 +281,8 @@ pub Address-is-good-highest-refused : RuledOut (λ k. fits-Address ⊗ fits-end)
 Address-is-good-highest-refused = fails (address 131071) refl refl refl
 
 -- 131,072, the length of the region, passes
-pub Address-is-good-one-above-passes : RuledOut (λ k. fits-Address ⊗ fits-end) Address-is-good.Pre Address-is-good.Post (λ k a. leb (a .0 .0) region)
+pub Address-is-good-one-above-passes : RuledOut (λ k. fits-Address ⊗ fits-end) Address-is-good.Pre Address-is-good.Post
+    (λ k a. leb (a .0 .0) region)
 Address-is-good-one-above-passes = passes (address 131072) refl refl refl
 
 -- an address made where a test passes
@@ -305,30 +317,35 @@ pub Fault-number-203-and-204-exchanged : RuledOut (λ k. fits-Fault ⊗ fits-end
 Fault-number-203-and-204-exchanged = wrong-at tt (AlreadyWaitedOn, tt) refl tt (λ n. eqb n 204) refl refl
 
 -- DETACH's 208 is 207, so that a task which is no subtask counts as one that has some
-pub Fault-number-208-is-207 : RuledOut (λ k. fits-Fault ⊗ fits-end) Fault-number.Pre Fault-number.Post (λ k a. for 207 208 (faultNumber (a .0)))
+pub Fault-number-208-is-207 : RuledOut (λ k. fits-Fault ⊗ fits-end) Fault-number.Pre Fault-number.Post
+    (λ k a. for 207 208 (faultNumber (a .0)))
 Fault-number-208-is-207 = wrong-at tt (NotSubtask, tt) refl tt (λ n. eqb n 207) refl refl
 
 -- the program errors are numbered from 200
-pub Fault-number-from-200 : RuledOut (λ k. fits-Fault ⊗ fits-end) Fault-number.Pre Fault-number.Post (λ k a. faultNumber (a .0) - 1)
+pub Fault-number-from-200 : RuledOut (λ k. fits-Fault ⊗ fits-end) Fault-number.Pre Fault-number.Post
+    (λ k a. faultNumber (a .0) - 1)
 Fault-number-from-200 = wrong-at tt (DuplicateEnq, tt) refl tt (λ n. eqb n 200) refl refl
 
 -- 4 is answered as 0
-pub Reply-number-four-is-0 : RuledOut (λ k. fits-Reply ⊗ fits-end) Reply-number.Pre Reply-number.Post (λ k a. for 0 4 (numberOf (a .0)))
+pub Reply-number-four-is-0 : RuledOut (λ k. fits-Reply ⊗ fits-end) Reply-number.Pre Reply-number.Post
+    (λ k a. for 0 4 (numberOf (a .0)))
 Reply-number-four-is-0 = wrong-at tt (Four, tt) refl tt (λ n. eqb n 0) refl refl
 
 -- what is done is answered by its value, in place of 0
-pub Reply-number-the-value : RuledOut (λ k. fits-Reply ⊗ fits-end) Reply-number.Pre Reply-number.Post (λ k a. numberOf (a .0) + besidesOf (a .0))
+pub Reply-number-the-value : RuledOut (λ k. fits-Reply ⊗ fits-end) Reply-number.Pre Reply-number.Post
+    (λ k a. numberOf (a .0) + besidesOf (a .0))
 Reply-number-the-value = wrong-at tt (Done 8, tt) refl tt (λ n. eqb n 8) refl refl
 
 -- 102 is answered as 103: a task that is not live counts as one in a wait
-pub Reply-number-102-is-103 : RuledOut (λ k. fits-Reply ⊗ fits-end) Reply-number.Pre Reply-number.Post (λ k a. for 103 102 (numberOf (a .0)))
+pub Reply-number-102-is-103 : RuledOut (λ k. fits-Reply ⊗ fits-end) Reply-number.Pre Reply-number.Post
+    (λ k a. for 103 102 (numberOf (a .0)))
 Reply-number-102-is-103 = wrong-at tt (Refused NotLive, tt) refl tt (λ n. eqb n 103) refl refl
 
 -- nothing is ever answered besides
 pub Reply-besides-nothing : RuledOut (λ k. fits-Reply ⊗ fits-end) Reply-besides.Pre Reply-besides.Post (λ k a. 0)
 Reply-besides-nothing = wrong-at tt (Done 8, tt) refl tt (λ n. eqb n 0) refl refl
 
--- 4 stands besides itself
+-- 4 is answered with 4 besides
 pub Reply-besides-four : RuledOut (λ k. fits-Reply ⊗ fits-end) Reply-besides.Pre Reply-besides.Post
     (λ k a. cond (eqb (numberOf (a .0)) 4) 4 (besidesOf (a .0)))
 Reply-besides-four = wrong-at tt (Four, tt) refl tt (λ n. eqb n 4) refl refl
@@ -342,7 +359,8 @@ Reply-besides-the-refusal = wrong-at tt (Refused NotLive, tt) refl tt (λ n. eqb
 -- CONDITIONS
 
 -- a place is free where no task is live: that of an ended task too
-pub Condition-is-free-ended : RuledOut (λ k. fits-Condition ⊗ fits-end) Condition-is-free.Pre Condition-is-free.Post (λ k a. not (isLive (a .0)))
+pub Condition-is-free-ended : RuledOut (λ k. fits-Condition ⊗ fits-end) Condition-is-free.Pre Condition-is-free.Post
+    (λ k a. not (isLive (a .0)))
 Condition-is-free-ended = passes Ended refl refl refl
 
 -- the place of a task in a wait is free
@@ -351,15 +369,20 @@ pub Condition-is-free-in-a-wait : RuledOut (λ k. fits-Condition ⊗ fits-end) C
 Condition-is-free-in-a-wait = passes (EcbWait 1) refl refl refl
 
 -- whatever is not free is live: an ended task too
-pub Condition-is-live-ended : RuledOut (λ k. fits-Condition ⊗ fits-end) Condition-is-live.Pre Condition-is-live.Post (λ k a. not (isFree (a .0)))
+pub Condition-is-live-ended : RuledOut (λ k. fits-Condition ⊗ fits-end) Condition-is-live.Pre Condition-is-live.Post
+    (λ k a. not (isFree (a .0)))
 Condition-is-live-ended = passes Ended refl refl refl
 
 -- only a ready task is live: none in a wait
-pub Condition-is-live-only-ready : RuledOut (λ k. fits-Condition ⊗ fits-end) Condition-is-live.Pre Condition-is-live.Post (λ k a. isReady (a .0))
+pub Condition-is-live-only-ready :
+    RuledOut (λ k. fits-Condition ⊗ fits-end) Condition-is-live.Pre Condition-is-live.Post
+    (λ k a. isReady (a .0))
 Condition-is-live-only-ready = fails ResourceWait refl refl refl
 
--- a live task is ready: in a wait too
-pub Condition-is-ready-in-a-wait : RuledOut (λ k. fits-Condition ⊗ fits-end) Condition-is-ready.Pre Condition-is-ready.Post (λ k a. isLive (a .0))
+-- a live task is ready: one in a wait too
+pub Condition-is-ready-in-a-wait :
+    RuledOut (λ k. fits-Condition ⊗ fits-end) Condition-is-ready.Pre Condition-is-ready.Post
+    (λ k a. isLive (a .0))
 Condition-is-ready-in-a-wait = passes (EcbWait 1) refl refl refl
 
 -- a task that is in no wait is ready: an ended one too
@@ -368,17 +391,20 @@ pub Condition-is-ready-ended : RuledOut (λ k. fits-Condition ⊗ fits-end) Cond
 Condition-is-ready-ended = passes Ended refl refl refl
 
 -- any wait is a resource wait: an ECB wait too
-pub Condition-in-resource-wait-ecb-wait : RuledOut (λ k. fits-Condition ⊗ fits-end) Condition-in-resource-wait.Pre Condition-in-resource-wait.Post
+pub Condition-in-resource-wait-ecb-wait :
+    RuledOut (λ k. fits-Condition ⊗ fits-end) Condition-in-resource-wait.Pre Condition-in-resource-wait.Post
     (λ k a. waits (a .0))
 Condition-in-resource-wait-ecb-wait = passes (EcbWait 1) refl refl refl
 
 -- a task that is neither ready nor in an ECB wait is in a resource wait: an ended one too
-pub Condition-in-resource-wait-ended : RuledOut (λ k. fits-Condition ⊗ fits-end) Condition-in-resource-wait.Pre Condition-in-resource-wait.Post
+pub Condition-in-resource-wait-ended :
+    RuledOut (λ k. fits-Condition ⊗ fits-end) Condition-in-resource-wait.Pre Condition-in-resource-wait.Post
     (λ k a. not (isFree (a .0)) && not (isReady (a .0) || inEcbWait (a .0)))
 Condition-in-resource-wait-ended = passes Ended refl refl refl
 
 -- any wait is an ECB wait: a resource wait too
-pub Condition-in-ecb-wait-resource-wait : RuledOut (λ k. fits-Condition ⊗ fits-end) Condition-in-ecb-wait.Pre Condition-in-ecb-wait.Post
+pub Condition-in-ecb-wait-resource-wait :
+    RuledOut (λ k. fits-Condition ⊗ fits-end) Condition-in-ecb-wait.Pre Condition-in-ecb-wait.Post
     (λ k a. waits (a .0))
 Condition-in-ecb-wait-resource-wait = passes ResourceWait refl refl refl
 
@@ -390,17 +416,20 @@ needsSeveral ResourceWait = false
 needsSeveral (EcbWait n) = ltb 1 n
 needsSeveral Ended = false
 
--- a task that needs one post more is no longer in a wait
-pub Condition-in-ecb-wait-one-post-needed : RuledOut (λ k. fits-Condition ⊗ fits-end) Condition-in-ecb-wait.Pre Condition-in-ecb-wait.Post
+-- a task that needs just one post is no longer in a wait
+pub Condition-in-ecb-wait-one-post-needed :
+    RuledOut (λ k. fits-Condition ⊗ fits-end) Condition-in-ecb-wait.Pre Condition-in-ecb-wait.Post
     (λ k a. needsSeveral (a .0))
 Condition-in-ecb-wait-one-post-needed = fails (EcbWait 1) refl refl refl
 
 -- ECB waits are overlooked
-pub Condition-waits-no-ecb-wait : RuledOut (λ k. fits-Condition ⊗ fits-end) Condition-waits.Pre Condition-waits.Post (λ k a. inResourceWait (a .0))
+pub Condition-waits-no-ecb-wait : RuledOut (λ k. fits-Condition ⊗ fits-end) Condition-waits.Pre Condition-waits.Post
+    (λ k a. inResourceWait (a .0))
 Condition-waits-no-ecb-wait = fails (EcbWait 1) refl refl refl
 
 -- whatever is not ready waits: an ended task too
-pub Condition-waits-ended : RuledOut (λ k. fits-Condition ⊗ fits-end) Condition-waits.Pre Condition-waits.Post (λ k a. not (isReady (a .0)))
+pub Condition-waits-ended : RuledOut (λ k. fits-Condition ⊗ fits-end) Condition-waits.Pre Condition-waits.Post
+    (λ k a. not (isReady (a .0)))
 Condition-waits-ended = passes Ended refl refl refl
 
 -- TASKS
@@ -419,7 +448,7 @@ pub Task-free-with-ecb-0 : RuledOut (λ k. fits-end) Task-free.Pre Task-free.Pos
     (λ k a. record { condition = Free; mother = task 0; limit = 0; dispatching = 0; ecb = Named (ecb 0) })
 Task-free-with-ecb-0 = wrong-at tt tt refl tt (λ x. hasEcb (x .ecb)) refl refl
 
--- a task with other priorities, and with no ECB
+-- a task with other priorities; a task with no ECB
 abbrev withPriorities : ℕ → ℕ → Task → Task
 withPriorities l d x = record { condition = x .condition; mother = x .mother; limit = l; dispatching = d; ecb = x .ecb }
 
@@ -428,26 +457,32 @@ withoutEcb x =
     record { condition = x .condition; mother = x .mother; limit = x .limit; dispatching = x .dispatching; ecb = NoEcb }
 
 -- limit and dispatching priority are exchanged
-pub Task-with-condition-priorities-exchanged : RuledOut (λ k. fits-Task ⊗ fits-Condition ⊗ fits-end) Task-with-condition.Pre Task-with-condition.Post
+pub Task-with-condition-priorities-exchanged :
+    RuledOut (λ k. fits-Task ⊗ fits-Condition ⊗ fits-end) Task-with-condition.Pre Task-with-condition.Post
     (λ k a. withPriorities (a .0 .dispatching) (a .0 .limit) (withCondition (a .0) (a .1 .0)))
 Task-with-condition-priorities-exchanged = wrong-at tt (sub, (Ended, tt)) refl tt (λ x. eqb (x .limit) 150) refl refl
 
 -- the condition stays as it was
-pub Task-with-condition-stays : RuledOut (λ k. fits-Task ⊗ fits-Condition ⊗ fits-end) Task-with-condition.Pre Task-with-condition.Post (λ k a. a .0)
+pub Task-with-condition-stays :
+    RuledOut (λ k. fits-Task ⊗ fits-Condition ⊗ fits-end) Task-with-condition.Pre Task-with-condition.Post
+    (λ k a. a .0)
 Task-with-condition-stays = wrong-at tt (sub, (Ended, tt)) refl tt (λ x. isReady (x .condition)) refl refl
 
 -- the ECB is lost
-pub Task-with-condition-ecb-lost : RuledOut (λ k. fits-Task ⊗ fits-Condition ⊗ fits-end) Task-with-condition.Pre Task-with-condition.Post
+pub Task-with-condition-ecb-lost :
+    RuledOut (λ k. fits-Task ⊗ fits-Condition ⊗ fits-end) Task-with-condition.Pre Task-with-condition.Post
     (λ k a. withoutEcb (withCondition (a .0) (a .1 .0)))
 Task-with-condition-ecb-lost = wrong-at tt (sub, (Ended, tt)) refl tt (λ x. not (hasEcb (x .ecb))) refl refl
 
 -- 255 is refused
-pub Task-priority-good-highest-refused : RuledOut (λ k. fits-u16 ⊗ fits-end) Task-priority-good.Pre Task-priority-good.Post
+pub Task-priority-good-highest-refused :
+    RuledOut (λ k. fits-u16 ⊗ fits-end) Task-priority-good.Pre Task-priority-good.Post
     (λ k a. ltb (a .0) highestPriority)
 Task-priority-good-highest-refused = fails 255 refl refl refl
 
 -- 256 passes
-pub Task-priority-good-one-above-passes : RuledOut (λ k. fits-u16 ⊗ fits-end) Task-priority-good.Pre Task-priority-good.Post
+pub Task-priority-good-one-above-passes :
+    RuledOut (λ k. fits-u16 ⊗ fits-end) Task-priority-good.Pre Task-priority-good.Post
     (λ k a. leb (a .0) (highestPriority + 1))
 Task-priority-good-one-above-passes = passes 256 refl refl refl
 
@@ -470,7 +505,8 @@ unfolding tables-open
 Task-dpmod-good-255-refused = fails (pos 255) refl refl refl
 
 -- 4,095 is refused
-pub Task-code-good-highest-refused : RuledOut (λ k. fits-u16 ⊗ fits-end) Task-code-good.Pre Task-code-good.Post (λ k a. ltb (a .0) highestEndCode)
+pub Task-code-good-highest-refused : RuledOut (λ k. fits-u16 ⊗ fits-end) Task-code-good.Pre Task-code-good.Post
+    (λ k a. ltb (a .0) highestEndCode)
 Task-code-good-highest-refused = fails 4095 refl refl refl
 
 -- 4,096 passes

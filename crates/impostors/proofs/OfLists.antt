@@ -10,11 +10,9 @@ use Rattle.lists.specs.Lists.{sameBytes}
 use Rattle.lists.proofs.same_bytes.Reads as same-bytes
 use Rattle.impostors.specs.Fitting.{_⊗_, fits-end, fits-lent}
 use Rattle.impostors.specs.Wrong.{RuledOut, wrong-at}
+use Rattle.impostors.specs.Parts.{lent}
 
 -- two byte strings, lent
-abbrev lent : List ℕ → RefT (List ℕ)
-lent l = record { ptr = (0, 0); name = 0; now = l }
-
 abbrev two : List ℕ → List ℕ → RefT (List ℕ) × (RefT (List ℕ) × Unit {0})
 two l m = (lent l, (lent m, tt))
 

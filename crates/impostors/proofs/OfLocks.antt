@@ -1,7 +1,7 @@
 -- Wrong answers that the contracts of `locks` rule out. Assumes nothing.
 use mathlib.Core.Path.{refl}
 use mathlib.Core.Bool.{not, _&&_, _||_}
-use mathlib.Core.List.{List, [], _∷_}
+use mathlib.Core.List.{[], _∷_}
 use native.Mathlib.Omega.{arith}
 use Rattle.lists.specs.Pick.{pick}
 use Rattle.lists.specs.Lists.{every, some, keep, everyAt, mapAt, alike}
@@ -29,6 +29,7 @@ use Rattle.impostors.specs.Fitting.{_⊗_, fits-Family, fits-Queue, fits
 use Rattle.impostors.specs.Opened.{tables-open}
 use Rattle.impostors.specs.Samples.{ecb}
 use Rattle.impostors.specs.Wrong.{RuledOut, wrong-at}
+use Rattle.impostors.specs.Parts.{ownerAndWaiter}
 
 -- task 1 is ready, and its subtask 2, attached with ECB 3, in this condition
 abbrev family : Condition → Family
@@ -38,11 +39,7 @@ family k = familyOf (padded highestTask noTask (rowOf Ready 0 200 150 NoEcb ∷ 
 abbrev second : Family → Condition
 second f = conditionOf (f .places) 2
 
--- task 1 owns x, and 2 lacks control of it
-abbrev two : List Entry
-two = entryFor 1 (exc x) ∷ entryFor 2 (exc x) ∷ []
-
-two-packed : Packed (stored two)
+two-packed : Packed (stored ownerAndWaiter)
 unfolding tables-open
 two-packed = record { form = refl; room = omega arith }
 
@@ -50,25 +47,29 @@ two-packed = record { form = refl; room = omega arith }
 pub entries-live-ended-too : RuledOut (λ k. fits-Queue ⊗ fits-Family ⊗ fits-end) entries-live.Pre entries-live.Post
     (λ k a. every (λ (e : Entry). used (a .1 .0 .places) (e .task)) (live (a .0)))
 unfolding tables-open
-entries-live-ended-too = wrong-at tt (stored two, (family Ended, tt)) refl (omega arith) (λ b. b) refl refl
+entries-live-ended-too = wrong-at tt (stored ownerAndWaiter, (family Ended, tt)) refl (omega arith) (λ b. b) refl refl
 
 -- a task that waits is not live
 pub entries-live-ready-only : RuledOut (λ k. fits-Queue ⊗ fits-Family ⊗ fits-end) entries-live.Pre entries-live.Post
     (λ k a. every (λ (e : Entry). isReady (conditionOf (a .1 .0 .places) (e .task))) (live (a .0)))
 unfolding tables-open
-entries-live-ready-only = wrong-at tt (stored two, (family ResourceWait, tt)) refl (omega arith) not refl refl
+entries-live-ready-only =
+    wrong-at tt (stored ownerAndWaiter, (family ResourceWait, tt)) refl (omega arith) not refl refl
 
 -- a task may wait that lacks nothing: 2 waits, and there is no entry
 pub waits-good-waiting-for-nothing : RuledOut (λ k. fits-Queue ⊗ fits-Family ⊗ fits-end) waits-good.Pre waits-good.Post
     (λ k a. everyAt (λ n (t : Task). inResourceWait (t .condition) || not (lacks n (live (a .0)))) 1 (a .1 .0 .places))
 unfolding tables-open
-waits-good-waiting-for-nothing = wrong-at tt (stored [], (family ResourceWait, tt)) refl (omega arith) (λ b. b) refl refl
+waits-good-waiting-for-nothing =
+    wrong-at tt (stored [], (family ResourceWait, tt)) refl (omega arith) (λ b. b) refl refl
 
 -- a task may go on that lacks control: 2 is ready
-pub waits-good-ready-without-control : RuledOut (λ k. fits-Queue ⊗ fits-Family ⊗ fits-end) waits-good.Pre waits-good.Post
+pub waits-good-ready-without-control :
+    RuledOut (λ k. fits-Queue ⊗ fits-Family ⊗ fits-end) waits-good.Pre waits-good.Post
     (λ k a. everyAt (λ n (t : Task). not (inResourceWait (t .condition)) || lacks n (live (a .0))) 1 (a .1 .0 .places))
 unfolding tables-open
-waits-good-ready-without-control = wrong-at tt (stored two, (family Ready, tt)) refl (omega arith) (λ b. b) refl refl
+waits-good-ready-without-control =
+    wrong-at tt (stored ownerAndWaiter, (family Ready, tt)) refl (omega arith) (λ b. b) refl refl
 
 -- an ECB wait is taken for a resource wait: 2 is in one, and lacks nothing
 pub waits-good-of-either-kind : RuledOut (λ k. fits-Queue ⊗ fits-Family ⊗ fits-end) waits-good.Pre waits-good.Post
@@ -80,14 +81,16 @@ waits-good-of-either-kind = wrong-at tt (stored [], (family (EcbWait 1), tt)) re
 pub sweep-ended-stay : RuledOut (λ k. fits-Queue ⊗ fits-Family ⊗ fits-end) sweep.Pre sweep.Post
     (λ k a. stored (keep (λ (e : Entry). used (a .1 .0 .places) (e .task)) (live (a .0))))
 unfolding tables-open
-sweep-ended-stay = wrong-at tt (stored two, (family Ended, tt)) refl two-packed (λ q. hasEntry (live q) 2 x) refl refl
+sweep-ended-stay =
+    wrong-at tt (stored ownerAndWaiter, (family Ended, tt)) refl two-packed (λ q. hasEntry (live q) 2 x) refl refl
 
 -- an entry of a task that waits goes
 pub sweep-waiting-go : RuledOut (λ k. fits-Queue ⊗ fits-Family ⊗ fits-end) sweep.Pre sweep.Post
     (λ k a. stored (keep (λ (e : Entry). isReady (conditionOf (a .1 .0 .places) (e .task))) (live (a .0))))
 unfolding tables-open
 sweep-waiting-go =
-    wrong-at tt (stored two, (family ResourceWait, tt)) refl two-packed (λ q. not (hasEntry (live q) 2 x)) refl refl
+    wrong-at tt (stored ownerAndWaiter, (family ResourceWait, tt)) refl two-packed (λ q. not (hasEntry (live q) 2 x))
+    refl refl
 
 -- nobody wakes: 2 waits, and no entry is left
 pub wake-nobody : RuledOut (λ k. fits-Queue ⊗ fits-Family ⊗ fits-end) wake.Pre wake.Post (λ k a. a .1 .0)
@@ -102,11 +105,13 @@ pub wake-at-the-first-grant : RuledOut (λ k. fits-Queue ⊗ fits-Family ⊗ fit
     (withCondition t Ready) t) 1 (a .1 .0 .places)))
 unfolding tables-open
 wake-at-the-first-grant =
-    wrong-at tt (stored (entryFor 2 (exc y) ∷ two), (family ResourceWait, tt)) refl (omega arith)
+    wrong-at tt (stored (entryFor 2 (exc y) ∷ ownerAndWaiter), (family ResourceWait, tt)) refl (omega arith)
     (λ f. isReady (second f)) refl refl
 
 -- whoever lacks control begins to wait: 2 is ready
-pub wake-also-holds-up : RuledOut (λ k. fits-Queue ⊗ fits-Family ⊗ fits-end) wake.Pre wake.Post (λ k a. familyOf (waitsBy (live (a .0)) (a .1 .0 .places)))
+pub wake-also-holds-up : RuledOut (λ k. fits-Queue ⊗ fits-Family ⊗ fits-end) wake.Pre wake.Post
+    (λ k a. familyOf (waitsBy (live (a .0)) (a .1 .0 .places)))
 unfolding tables-open
 wake-also-holds-up =
-    wrong-at tt (stored two, (family Ready, tt)) refl (omega arith) (λ f. inResourceWait (second f)) refl refl
+    wrong-at tt (stored ownerAndWaiter, (family Ready, tt)) refl (omega arith) (λ f. inResourceWait (second f)) refl
+    refl

@@ -53,7 +53,8 @@ pub same-name-lengths-not-compared : RuledOut (λ k. fits-Name ⊗ fits-Name ⊗
 unfolding tables-open
 same-name-lengths-not-compared = wrong-at tt (kept x, (kept (named 88 (1 ∷ 0 ∷ [])), tt)) refl tt (λ b. b) refl refl
 
--- what stands behind the minor part is compared: two names of the one byte 1 are two, where a 9 stands behind one of them
+-- what stands behind the minor part is compared: two names of the one byte 1 are two, where a 9 stands behind one of
+-- them
 pub same-name-bytes-behind-compared : RuledOut (λ k. fits-Name ⊗ fits-Name ⊗ fits-end) same-name.Pre same-name.Post
     (λ k a. (eqb (a .0 .length) (a .1 .0 .length) && sameBytes (a .0 .minor) (a .1 .0 .minor)) && sameMajor (a .0) (a .1 .0))
 unfolding tables-open
@@ -66,17 +67,20 @@ unfolding tables-open
 same-name-length-above-44-lost = wrong-at tt (stated 45, (stated 46, tt)) refl tt (λ b. b) refl refl
 
 -- an empty minor part passes
-pub is-legal-empty-passes : RuledOut (λ k. fits-Name ⊗ fits-end) is-legal.Pre is-legal.Post (λ k a. leb (a .0 .length) longestMinor)
+pub is-legal-empty-passes : RuledOut (λ k. fits-Name ⊗ fits-end) is-legal.Pre is-legal.Post
+    (λ k a. leb (a .0 .length) longestMinor)
 unfolding tables-open
 is-legal-empty-passes = wrong-at tt (stated 0, tt) refl tt (λ b. b) refl refl
 
 -- a minor part of 44 bytes is too long
-pub is-legal-longest-refused : RuledOut (λ k. fits-Name ⊗ fits-end) is-legal.Pre is-legal.Post (λ k a. between 1 (longestMinor - 1) (a .0 .length))
+pub is-legal-longest-refused : RuledOut (λ k. fits-Name ⊗ fits-end) is-legal.Pre is-legal.Post
+    (λ k a. between 1 (longestMinor - 1) (a .0 .length))
 unfolding tables-open
 is-legal-longest-refused = wrong-at tt (stated 44, tt) refl tt not refl refl
 
 -- a stated length above 44 is lost: 45 passes as 44
-pub is-legal-length-above-44-lost : RuledOut (λ k. fits-Name ⊗ fits-end) is-legal.Pre is-legal.Post (λ k a. minorGood (length (inArray (a .0))))
+pub is-legal-length-above-44-lost : RuledOut (λ k. fits-Name ⊗ fits-end) is-legal.Pre is-legal.Post
+    (λ k a. minorGood (length (inArray (a .0))))
 unfolding tables-open
 is-legal-length-above-44-lost = wrong-at tt (stated 45, tt) refl tt (λ b. b) refl refl
 
@@ -90,18 +94,20 @@ abbrev keeping : ℕ → Name → Name
 keeping i n = record { major = n .major; minor = padded longestMinor 0 (take i (n .minor)); length = n .length }
 
 -- a byte more than the minor part is kept: it is the byte 1, and the 9 behind it is kept
-pub clean-a-byte-more : RuledOut (λ k. fits-Name ⊗ fits-end) clean.Pre clean.Post (λ k a. keeping (a .0 .length + 1) (a .0))
+pub clean-a-byte-more : RuledOut (λ k. fits-Name ⊗ fits-end) clean.Pre clean.Post
+    (λ k a. keeping (a .0 .length + 1) (a .0))
 unfolding tables-open
 clean-a-byte-more = wrong-at tt (stated 1, tt) refl (omega arith) (λ n. eqb (getD (n .minor) 1 0) 9) refl refl
 
 -- the last byte of the minor part is lost: it is 1 9, and a 0 is kept for the 9
-pub clean-last-byte-lost : RuledOut (λ k. fits-Name ⊗ fits-end) clean.Pre clean.Post (λ k a. keeping (a .0 .length - 1) (a .0))
+pub clean-last-byte-lost : RuledOut (λ k. fits-Name ⊗ fits-end) clean.Pre clean.Post
+    (λ k a. keeping (a .0 .length - 1) (a .0))
 unfolding tables-open
 clean-last-byte-lost = wrong-at tt (stated 2, tt) refl (omega arith) (λ n. eqb (getD (n .minor) 1 0) 0) refl refl
 
 -- LISTS OF NAMES
 
--- the tests of 101, but for another test that no name stands twice
+-- the tests of 101, with another test that no name stands twice
 abbrev goodBy : (List Ask → Bool) → NameList → Bool
 goodBy once l = countGood (l .count) && (every legal (namesAmong (namesIn l)) && once (namesIn l .asks))
 
@@ -110,7 +116,8 @@ abbrev sameAsk : Ask → Ask → Bool
 sameAsk v w = alike (v .exclusive) (w .exclusive) && sameName (v .name) (w .name)
 
 -- a name may stand twice with two modes: x shared and x exclusive pass
-pub names-good-twice-with-two-modes : RuledOut (λ k. fits-NameList ⊗ fits-end) names-good.Pre names-good.Post (λ k a. goodBy (distinct sameAsk) (a .0))
+pub names-good-twice-with-two-modes : RuledOut (λ k. fits-NameList ⊗ fits-end) names-good.Pre names-good.Post
+    (λ k a. goodBy (distinct sameAsk) (a .0))
 unfolding tables-open
 names-good-twice-with-two-modes = wrong-at tt (namesOf (shr x ∷ exc x ∷ []), tt) refl tt (λ b. b) refl refl
 
@@ -124,7 +131,8 @@ nextOnly [] = true
 nextOnly (v ∷ l) = nextFrom v l
 
 -- each name is compared with the next one only: x y x passes
-pub names-good-next-only : RuledOut (λ k. fits-NameList ⊗ fits-end) names-good.Pre names-good.Post (λ k a. goodBy nextOnly (a .0))
+pub names-good-next-only : RuledOut (λ k. fits-NameList ⊗ fits-end) names-good.Pre names-good.Post
+    (λ k a. goodBy nextOnly (a .0))
 unfolding tables-open
 names-good-next-only = wrong-at tt (namesOf (exc x ∷ exc y ∷ exc x ∷ []), tt) refl tt (λ b. b) refl refl
 
@@ -142,12 +150,14 @@ abbrev allPlaces : NameList → Names
 allPlaces l = record { count = l .count; asks = map askOf (l .names) }
 
 -- the places past the count are tested too: a list of x alone is refused for the zeros behind it
-pub names-good-past-the-count : RuledOut (λ k. fits-NameList ⊗ fits-end) names-good.Pre names-good.Post (λ k a. namesGood (allPlaces (a .0)))
+pub names-good-past-the-count : RuledOut (λ k. fits-NameList ⊗ fits-end) names-good.Pre names-good.Post
+    (λ k a. namesGood (allPlaces (a .0)))
 unfolding tables-open
 names-good-past-the-count = wrong-at tt (namesOf (exc x ∷ []), tt) refl tt not refl refl
 
--- USE is refused for a shared name as well
-pub asks-shared-use : RuledOut (λ k. fits-Ret ⊗ fits-NameList ⊗ fits-end) asks-shared.Pre asks-shared.Post (λ k a. asksShared Chng (namesIn (a .1 .0)))
+-- a shared name is refused under every RET kind: USE for x shared
+pub asks-shared-use : RuledOut (λ k. fits-Ret ⊗ fits-NameList ⊗ fits-end) asks-shared.Pre asks-shared.Post
+    (λ k a. asksShared Chng (namesIn (a .1 .0)))
 unfolding tables-open
 asks-shared-use = wrong-at tt (Use, (namesOf (shr x ∷ []), tt)) refl (omega arith) (λ b. b) refl refl
 

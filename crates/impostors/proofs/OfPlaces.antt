@@ -5,8 +5,7 @@ use mathlib.Core.Bool.{Bool, true, not, _&&_, _||_}
 use mathlib.Core.List.{List, [], _∷_, _++_}
 use lib.Dec.{eqb, leb, ltb}
 use lib.ListN.{length, take, replicate}
-use Rattle.lists.specs.Lists.{every, everyAt}
-use Rattle.lists.specs.Tables.{padded}
+use Rattle.lists.specs.Lists.{every, everyAt, howMany}
 use Rattle.kinds.specs.Limits.{jobStepTask, highestTask, highestEcb}
 use Rattle.kinds.specs.Ranges.{priorityGood}
 use Rattle.kinds.specs.Tasks.{noTask, isFree, isLive}
@@ -20,6 +19,7 @@ use Rattle.rules.specs.Family.{place, live, used, mother, below}
 use Rattle.rules.specs.SoundTasks.{hasEcb, motherGood, prioritiesGood, taskEcbsGood, endedTasksGood}
 use Rattle.rules.specs.SoundTasks.{zeroTask, freePlacesGood}
 use Rattle.rules.specs.Table.{ecb}
+use Rattle.laws.specs.Wiping.{inUse}
 use Rattle.family.specs.Families.{familyOf}
 use Rattle.family.specs.declared.Family.{Family}
 use Rattle.places.proofs.ecb_good.Reads as ecb-good
@@ -34,14 +34,8 @@ use Rattle.places.proofs.all_zero.Reads as all-zero
 use Rattle.impostors.specs.Fitting.{_⊗_, fits-Family, fits-MaybeEcb, fits-end}
 use Rattle.impostors.specs.Opened.{tables-open}
 use Rattle.impostors.specs.Samples.{task}
-use Rattle.impostors.specs.Wrong.{RuledOut, wrong-at}
-
--- a task of this mother in this condition, with limit 200 and dispatching priority 150
-abbrev under : ℕ → Condition → MaybeEcb → Task
-under m k e = record { condition = k; mother = task m; limit = 200; dispatching = 150; ecb = e }
-
-abbrev first : Task
-first = under 0 Ready NoEcb
+use Rattle.impostors.specs.Wrong.{told-apart, RuledOut, wrong-at}
+use Rattle.impostors.specs.Parts.{family, under, first}
 
 -- a place with these priorities
 abbrev ranked : Condition → ℕ → ℕ → Task
@@ -51,10 +45,7 @@ ranked k limit dispatching = record { condition = k; mother = task 0; limit = li
 abbrev freeWithEcb : Task
 freeWithEcb = record { condition = Free; mother = task 0; limit = 0; dispatching = 0; ecb = ecb 0 }
 
--- these tasks from place 1 on, and free places behind them; one task in the last place, and free places before it
-abbrev family : List Task → Family
-family l = familyOf (padded highestTask noTask l)
-
+-- one task in the last place, and free places before it
 abbrev lastly : Task → Family
 lastly x = familyOf (replicate (highestTask - 1) noTask ++ (x ∷ []))
 
@@ -68,17 +59,32 @@ ecbTo highest NoEcb = true
 ecbTo highest (Named e) = leb (e .0) highest
 
 -- a task needs an ECB
-pub ecb-good-none-refused : RuledOut (λ k. fits-MaybeEcb ⊗ fits-end) ecb-good.Pre ecb-good.Post (λ k a. hasEcb (a .0) && maybeGood (a .0))
+pub ecb-good-none-refused : RuledOut (λ k. fits-MaybeEcb ⊗ fits-end) ecb-good.Pre ecb-good.Post
+    (λ k a. hasEcb (a .0) && maybeGood (a .0))
 ecb-good-none-refused = wrong-at tt (NoEcb, tt) refl tt not refl refl
 
 -- ECB 64 passes
-pub ecb-good-one-above-passes : RuledOut (λ k. fits-MaybeEcb ⊗ fits-end) ecb-good.Pre ecb-good.Post (λ k a. ecbTo (highestEcb + 1) (a .0))
+pub ecb-good-one-above-passes : RuledOut (λ k. fits-MaybeEcb ⊗ fits-end) ecb-good.Pre ecb-good.Post
+    (λ k a. ecbTo (highestEcb + 1) (a .0))
 ecb-good-one-above-passes = wrong-at tt (ecb 64, tt) refl tt (λ b. b) refl refl
 
--- a table of 32 places is too long. By its type it has no other length, so there is no other wrong answer.
-pub tasks-fit-32-places-refused : RuledOut (λ k. fits-Family ⊗ fits-end) tasks-fit.Pre tasks-fit.Post (λ k a. ltb (length (a .0 .places)) highestTask)
+-- a table of 32 places is too long
+pub tasks-fit-32-places-refused : RuledOut (λ k. fits-Family ⊗ fits-end) tasks-fit.Pre tasks-fit.Post
+    (λ k a. ltb (length (a .0 .places)) highestTask)
 unfolding tables-open
 tasks-fit-32-places-refused = wrong-at tt (family (first ∷ []), tt) refl tt not refl refl
+
+-- only tasks in use are counted: one, and not 32
+pub tasks-fit-counts-the-tasks : RuledOut (λ k. fits-Family ⊗ fits-end) tasks-fit.Pre tasks-fit.Post
+    (λ k a. eqb (howMany inUse (a .0 .places)) highestTask)
+unfolding tables-open
+tasks-fit-counts-the-tasks = record {
+  lifetimes = tt;
+  given = (family (first ∷ []), tt);
+  fitting = refl;
+  asked = tt;
+  broken = λ e p. told-apart p not refl refl;
+}
 
 -- what is asked of task 1, one by one
 abbrev motherless : Family → Bool
@@ -127,16 +133,20 @@ mothers-good-chain-not-followed =
 pub mothers-good-ended-task-passes : RuledOut (λ k. fits-Family ⊗ fits-end) mothers-good.Pre mothers-good.Post
     (λ k a. everyAt (λ n x. not (isLive (x .condition)) || motherGood (a .0 .places) n x) 1 (a .0 .places))
 unfolding tables-open
-mothers-good-ended-task-passes = wrong-at tt (family (first ∷ under 3 Ended (ecb 5) ∷ []), tt) refl tt (λ b. b) refl refl
+mothers-good-ended-task-passes =
+    wrong-at tt (family (first ∷ under 3 Ended (ecb 5) ∷ []), tt) refl tt (λ b. b) refl refl
 
 -- a dispatching priority above the limit passes: 101 with a limit of 100
-pub priorities-good-dispatching-above-limit : RuledOut (λ k. fits-Family ⊗ fits-end) priorities-good.Pre priorities-good.Post
+pub priorities-good-dispatching-above-limit :
+    RuledOut (λ k. fits-Family ⊗ fits-end) priorities-good.Pre priorities-good.Post
     (λ k a. every (λ x. priorityGood (x .limit) && priorityGood (x .dispatching)) (a .0 .places))
 unfolding tables-open
-priorities-good-dispatching-above-limit = wrong-at tt (family (ranked Ready 100 101 ∷ []), tt) refl tt (λ b. b) refl refl
+priorities-good-dispatching-above-limit =
+    wrong-at tt (family (ranked Ready 100 101 ∷ []), tt) refl tt (λ b. b) refl refl
 
 -- a dispatching priority has to be below the limit: 100 with a limit of 100 is refused
-pub priorities-good-dispatching-equal-refused : RuledOut (λ k. fits-Family ⊗ fits-end) priorities-good.Pre priorities-good.Post
+pub priorities-good-dispatching-equal-refused :
+    RuledOut (λ k. fits-Family ⊗ fits-end) priorities-good.Pre priorities-good.Post
     (λ k a. every (λ x. isFree (x .condition) || ltb (x .dispatching) (x .limit)) (a .0 .places))
 unfolding tables-open
 priorities-good-dispatching-equal-refused = wrong-at tt (family (ranked Ready 100 100 ∷ []), tt) refl tt not refl refl
@@ -157,7 +167,8 @@ task-ecbs-good-none-refused = wrong-at tt (family (first ∷ []), tt) refl tt no
 pub task-ecbs-good-one-above-passes : RuledOut (λ k. fits-Family ⊗ fits-end) task-ecbs-good.Pre task-ecbs-good.Post
     (λ k a. every (λ x. ecbTo (highestEcb + 1) (x .ecb)) (a .0 .places))
 unfolding tables-open
-task-ecbs-good-one-above-passes = wrong-at tt (family (first ∷ under 1 Ready (ecb 64) ∷ []), tt) refl tt (λ b. b) refl refl
+task-ecbs-good-one-above-passes =
+    wrong-at tt (family (first ∷ under 1 Ready (ecb 64) ∷ []), tt) refl tt (λ b. b) refl refl
 
 -- task 32 is overlooked, with ECB 64
 pub task-ecbs-good-task-32-overlooked : RuledOut (λ k. fits-Family ⊗ fits-end) task-ecbs-good.Pre task-ecbs-good.Post
@@ -172,13 +183,15 @@ unfolding tables-open
 ended-tasks-good-ready-refused = wrong-at tt (family (first ∷ []), tt) refl tt not refl refl
 
 -- an ended task is to have no ECB any more: task 2, which has ended and has ECB 5, fails
-pub ended-tasks-good-with-ecb-refused : RuledOut (λ k. fits-Family ⊗ fits-end) ended-tasks-good.Pre ended-tasks-good.Post
+pub ended-tasks-good-with-ecb-refused :
+    RuledOut (λ k. fits-Family ⊗ fits-end) ended-tasks-good.Pre ended-tasks-good.Post
     (λ k a. every (λ x. (isFree (x .condition) || isLive (x .condition)) || not (hasEcb (x .ecb))) (a .0 .places))
 unfolding tables-open
 ended-tasks-good-with-ecb-refused = wrong-at tt (family (first ∷ under 1 Ended (ecb 5) ∷ []), tt) refl tt not refl refl
 
 -- task 32 is overlooked, which has ended and has no ECB
-pub ended-tasks-good-task-32-overlooked : RuledOut (λ k. fits-Family ⊗ fits-end) ended-tasks-good.Pre ended-tasks-good.Post
+pub ended-tasks-good-task-32-overlooked :
+    RuledOut (λ k. fits-Family ⊗ fits-end) ended-tasks-good.Pre ended-tasks-good.Post
     (λ k a. endedTasksGood (butLast (a .0)))
 unfolding tables-open
 ended-tasks-good-task-32-overlooked = wrong-at tt (lastly (under 1 Ended NoEcb), tt) refl tt (λ b. b) refl refl
@@ -200,13 +213,15 @@ unfolding tables-open
 free-places-good-in-use-refused = wrong-at tt (family (first ∷ []), tt) refl tt not refl refl
 
 -- place 32 is overlooked, which is free and has an ECB
-pub free-places-good-place-32-overlooked : RuledOut (λ k. fits-Family ⊗ fits-end) free-places-good.Pre free-places-good.Post
+pub free-places-good-place-32-overlooked :
+    RuledOut (λ k. fits-Family ⊗ fits-end) free-places-good.Pre free-places-good.Post
     (λ k a. freePlacesGood (butLast (a .0)))
 unfolding tables-open
 free-places-good-place-32-overlooked = wrong-at tt (lastly freeWithEcb, tt) refl tt (λ b. b) refl refl
 
 -- places in use pass: that of task 1
-pub all-zero-in-use-passes : RuledOut (λ k. fits-Family ⊗ fits-end) all-zero.Pre all-zero.Post (λ k a. freePlacesGood (a .0 .places))
+pub all-zero-in-use-passes : RuledOut (λ k. fits-Family ⊗ fits-end) all-zero.Pre all-zero.Post
+    (λ k a. freePlacesGood (a .0 .places))
 unfolding tables-open
 all-zero-in-use-passes = wrong-at tt (family (first ∷ []), tt) refl tt (λ b. b) refl refl
 
@@ -217,6 +232,7 @@ unfolding tables-open
 all-zero-free-with-a-limit = wrong-at tt (family (ranked Free 1 0 ∷ []), tt) refl tt (λ b. b) refl refl
 
 -- place 32 is overlooked, which is free and has an ECB
-pub all-zero-place-32-overlooked : RuledOut (λ k. fits-Family ⊗ fits-end) all-zero.Pre all-zero.Post (λ k a. every zeroTask (butLast (a .0)))
+pub all-zero-place-32-overlooked : RuledOut (λ k. fits-Family ⊗ fits-end) all-zero.Pre all-zero.Post
+    (λ k a. every zeroTask (butLast (a .0)))
 unfolding tables-open
 all-zero-place-32-overlooked = wrong-at tt (lastly freeWithEcb, tt) refl tt (λ b. b) refl refl

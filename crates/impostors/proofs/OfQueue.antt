@@ -1,7 +1,7 @@
 -- Wrong answers that the contracts of `queue` rule out. Assumes nothing.
 use mathlib.Core.Path.{refl}
 use mathlib.Core.Bool.{true, false, not, _&&_, _||_}
-use mathlib.Core.List.{List, [], _∷_, _++_}
+use mathlib.Core.List.{[], _∷_, _++_}
 use Prim.Native.Nat.{_-_}
 use native.Mathlib.Omega.{arith}
 use lib.Dec.{eqb, leb, ltb}
@@ -32,10 +32,7 @@ use Rattle.queue.proofs.marks.no_marks.Reads as no-marks
 use Rattle.impostors.specs.Fitting.{_⊗_, fits-Marks, fits-Queue, fits-Slot, fits-end}
 use Rattle.impostors.specs.Opened.{tables-open}
 use Rattle.impostors.specs.Wrong.{RuledOut, wrong-at}
-
--- task 1 owns x and 2 waits for it
-abbrev two : List Entry
-two = entryFor 1 (exc x) ∷ entryFor 2 (exc x) ∷ []
+use Rattle.impostors.specs.Parts.{ownerAndWaiter}
 
 -- the table is full of entries
 abbrev full : Queue
@@ -46,7 +43,8 @@ abbrev exclusivePlace : Slot
 exclusivePlace = record { task = zeroSlot .task; exclusive = true; name = zeroSlot .name }
 
 -- the queue has one entry, of nobody
-pub empty-of-one-entry : RuledOut (λ k. fits-end) empty.Pre empty.Post (λ k a. record { slots = stored [] .slots; count = 1 })
+pub empty-of-one-entry : RuledOut (λ k. fits-end) empty.Pre empty.Post
+    (λ k a. record { slots = stored [] .slots; count = 1 })
 unfolding tables-open
 empty-of-one-entry = wrong-at tt tt refl tt (λ q. eqb (q .count) 1) refl refl
 
@@ -56,7 +54,9 @@ pub empty-exclusive-places : RuledOut (λ k. fits-end) empty.Pre empty.Post
 unfolding tables-open
 empty-exclusive-places = wrong-at tt tt refl tt (λ q. some (λ (s : Slot). s .exclusive) (q .slots)) refl refl
 
--- entries or unused places may be dirty, one of the two: no entry, and an unused place that is exclusive
+-- unused fields of the entries, or unused places, one of the two, need not be zero: no entry, and an unused place that
+-- is
+-- exclusive
 pub packed-entries-or-unused-places : RuledOut (λ k. fits-Queue ⊗ fits-end) packed.Pre packed.Post
     (λ k a. pick (ltb mostEntries (a .0 .count)) false (allFine (a .0) || restZero (a .0)))
 unfolding tables-open
@@ -71,12 +71,14 @@ unfolding tables-open
 packed-full-is-not = wrong-at tt (full, tt) refl tt not refl refl
 
 -- the count is taken for the length of the list: 129 and a full table
-pub queue-fits-by-the-count : RuledOut (λ k. fits-Queue ⊗ fits-end) queue-fits.Pre queue-fits.Post (λ k a. leb (a .0 .count) mostEntries)
+pub queue-fits-by-the-count : RuledOut (λ k. fits-Queue ⊗ fits-end) queue-fits.Pre queue-fits.Post
+    (λ k a. leb (a .0 .count) mostEntries)
 unfolding tables-open
 queue-fits-by-the-count = wrong-at tt (record { slots = full .slots; count = 129 }, tt) refl tt not refl refl
 
 -- 128 entries are too many
-pub queue-fits-full-does-not : RuledOut (λ k. fits-Queue ⊗ fits-end) queue-fits.Pre queue-fits.Post (λ k a. ltb (length (live (a .0))) mostEntries)
+pub queue-fits-full-does-not : RuledOut (λ k. fits-Queue ⊗ fits-end) queue-fits.Pre queue-fits.Post
+    (λ k a. ltb (length (live (a .0))) mostEntries)
 unfolding tables-open
 queue-fits-full-does-not = wrong-at tt (full, tt) refl tt not refl refl
 
@@ -91,14 +93,16 @@ bars-shared-by-shared =
 pub bars-by-exclusive-only : RuledOut (λ k. fits-Slot ⊗ fits-Slot ⊗ fits-end) bars.Pre bars.Post
     (λ k a. sameName (entryOf (a .0) .name) (entryOf (a .1 .0) .name) && a .0 .exclusive)
 unfolding tables-open
-bars-by-exclusive-only = wrong-at tt (slotOf (entryFor 1 (shr x)), (slotOf (entryFor 2 (exc x)), tt)) refl tt not refl refl
+bars-by-exclusive-only =
+    wrong-at tt (slotOf (entryFor 1 (shr x)), (slotOf (entryFor 2 (exc x)), tt)) refl tt not refl refl
 
 -- names of one major part are one: the minor parts 1 and 2
 pub bars-by-the-major-part : RuledOut (λ k. fits-Slot ⊗ fits-Slot ⊗ fits-end) bars.Pre bars.Post
     (λ k a. sameBytes (a .0 .name .major) (a .1 .0 .name .major) && (a .0 .exclusive || a .1 .0 .exclusive))
 unfolding tables-open
 bars-by-the-major-part =
-    wrong-at tt (slotOf (entryFor 1 (exc x)), (slotOf (entryFor 2 (exc (named 88 (2 ∷ [])))), tt)) refl tt (λ b. b) refl refl
+    wrong-at tt (slotOf (entryFor 1 (exc x)), (slotOf (entryFor 2 (exc (named 88 (2 ∷ [])))), tt)) refl tt (λ b. b) refl
+    refl
 
 -- the last entry is not compared: two entries of task 1 for x
 pub entries-once-but-the-last : RuledOut (λ k. fits-Queue ⊗ fits-end) entries-once.Pre entries-once.Post
@@ -118,14 +122,15 @@ entries-once-in-each-mode =
 pub entries-once-for-a-name : RuledOut (λ k. fits-Queue ⊗ fits-end) entries-once.Pre entries-once.Post
     (λ k a. distinct (λ (e d : Entry). sameName (e .name) (d .name)) (live (a .0)))
 unfolding tables-open
-entries-once-for-a-name = wrong-at tt (stored two, tt) refl (omega arith) not refl refl
+entries-once-for-a-name = wrong-at tt (stored ownerAndWaiter, tt) refl (omega arith) not refl refl
 
 -- only the first name is looked at: behind x, one with no minor part
 pub entry-names-good-first-only : RuledOut (λ k. fits-Queue ⊗ fits-end) entry-names-good.Pre entry-names-good.Post
     (λ k a. entryNamesGood (take 1 (live (a .0))))
 unfolding tables-open
 entry-names-good-first-only =
-    wrong-at tt (stored (entryFor 1 (exc x) ∷ entryFor 1 (exc (named 88 [])) ∷ []), tt) refl (omega arith) (λ b. b) refl refl
+    wrong-at tt (stored (entryFor 1 (exc x) ∷ entryFor 1 (exc (named 88 [])) ∷ []), tt) refl (omega arith) (λ b. b) refl
+    refl
 
 -- a minor part of 44 bytes is too long
 pub entry-names-good-44-bytes : RuledOut (λ k. fits-Queue ⊗ fits-end) entry-names-good.Pre entry-names-good.Post
@@ -133,12 +138,15 @@ pub entry-names-good-44-bytes : RuledOut (λ k. fits-Queue ⊗ fits-end) entry-n
     && every (λ (e : Entry). ltb (length (e .name .minor)) longestMinor) (live (a .0)))
 unfolding tables-open
 entry-names-good-44-bytes =
-    wrong-at tt (stored (entryFor 1 (exc (named 88 (replicate longestMinor 1))) ∷ []), tt) refl (omega arith) not refl refl
+    wrong-at tt (stored (entryFor 1 (exc (named 88 (replicate longestMinor 1))) ∷ []), tt) refl (omega arith) not refl
+    refl
 
 -- a task is marked that was not asked for
-pub lacking-tasks-not-asked-for : RuledOut (λ k. fits-Queue ⊗ fits-Marks ⊗ fits-end) lacking.Pre lacking.Post (λ k a. marksAmong allMarks (live (a .0)))
+pub lacking-tasks-not-asked-for : RuledOut (λ k. fits-Queue ⊗ fits-Marks ⊗ fits-end) lacking.Pre lacking.Post
+    (λ k a. marksAmong allMarks (live (a .0)))
 unfolding tables-open
-lacking-tasks-not-asked-for = wrong-at tt (stored two, (noMarks, tt)) refl (omega arith) (λ m. markAt m 2) refl refl
+lacking-tasks-not-asked-for =
+    wrong-at tt (stored ownerAndWaiter, (noMarks, tt)) refl (omega arith) (λ m. markAt m 2) refl refl
 
 -- whoever has control of something lacks nothing: task 1 owns x, 2 owns y and waits for x
 pub lacking-until-the-first-grant : RuledOut (λ k. fits-Queue ⊗ fits-Marks ⊗ fits-end) lacking.Pre lacking.Post

@@ -39,9 +39,7 @@ use Rattle.impostors.specs.Fitting.{_⊗_, fits-Address, fits-Area, fits
 use Rattle.impostors.specs.Opened.{tables-open}
 use Rattle.impostors.specs.Wrong.{RuledOut, wrong-at}
 use Rattle.impostors.specs.Samples.{task}
-
-abbrev address : ℕ → Address
-address n = record { 0 = n }
+use Rattle.impostors.specs.Parts.{address, goes}
 
 -- SAMPLES: 8 bytes of task 1 in subpool 5, and 104 in subpool 10, at 0; 128 areas of 8 bytes in subpool 10, from 0 on
 abbrev one : List Area
@@ -60,11 +58,6 @@ few = stored-packed held _ refl (omega arith)
 abbrev at : ℕ → Place → Bool
 at n (At a) = eqb (a .0) n
 at n Nowhere = false
-
-abbrev goes : Verdict → Bool
-goes Go = true
-goes (Refuse why) = false
-goes (Fail what) = false
 
 -- THE SEARCH
 
@@ -104,7 +97,8 @@ lowest-on-anothers-page = wrong-at tt (stored held, (area 0 8 5 1, tt)) refl (om
 
 -- the end of the region is not looked at: 131,072 bytes at 8, where 0 to 7 are taken
 pub lowest-beyond-the-region :
-    RuledOut (λ k. fits-Storage ⊗ fits-Area ⊗ fits-end) lowest-place.Pre lowest-place.Post (λ k a. firstAt (λ x. every (apart x) (live (a .0))) (a .1 .0))
+    RuledOut (λ k. fits-Storage ⊗ fits-Area ⊗ fits-end) lowest-place.Pre lowest-place.Post
+    (λ k a. firstAt (λ x. every (apart x) (live (a .0))) (a .1 .0))
 unfolding tables-open
 lowest-beyond-the-region = wrong-at tt (stored one, (area 0 131072 5 1, tt)) refl (omega arith) (at 8) refl refl
 
@@ -119,7 +113,8 @@ area-at-rounded-down = wrong-at tt (address 0, (100, (5, (task 1, tt)))) refl re
 
 -- an area of subpool 0 is the caller's
 pub area-at-subpool-0-of-the-caller :
-    RuledOut (λ k. fits-Address ⊗ fits-u32 ⊗ fits-u8 ⊗ fits-TaskNumber ⊗ fits-end) area-at.Pre area-at.Post (λ k a. area (a .0 .0) (rounded (a .1 .0)) (a .1 .1 .0) (a .1 .1 .1 .0 .0))
+    RuledOut (λ k. fits-Address ⊗ fits-u32 ⊗ fits-u8 ⊗ fits-TaskNumber ⊗ fits-end) area-at.Pre area-at.Post
+    (λ k a. area (a .0 .0) (rounded (a .1 .0)) (a .1 .1 .0) (a .1 .1 .1 .0 .0))
 unfolding tables-open
 area-at-subpool-0-of-the-caller =
     wrong-at tt (address 0, (8, (0, (task 1, tt)))) refl refl (λ x. eqb (x .owner .0) 1) refl refl
@@ -154,17 +149,23 @@ atZero (At p) = At (address 0)
 atZero Nowhere = Nowhere
 
 -- 0 where there is no room, and not 4: 131,072 bytes are asked for conditionally
-pub got-done-with-no-room : RuledOut (λ k. fits-Storage ⊗ fits-TaskNumber ⊗ fits-u32 ⊗ fits-u8 ⊗ fits-bool ⊗ fits-end) got.Pre got.Post (λ k a. answered a (doneAt (placeOf a)) (placeOf a))
+pub got-done-with-no-room :
+    RuledOut (λ k. fits-Storage ⊗ fits-TaskNumber ⊗ fits-u32 ⊗ fits-u8 ⊗ fits-bool ⊗ fits-end) got.Pre got.Post
+    (λ k a. answered a (doneAt (placeOf a)) (placeOf a))
 unfolding tables-open
 got-done-with-no-room = wrong-at tt (asks held 131072 true) refl few (λ r. eqb (numberOf (r .reply)) 0) refl refl
 
 -- every request is taken for a conditional one: no error 205
-pub got-4-if-unconditional : RuledOut (λ k. fits-Storage ⊗ fits-TaskNumber ⊗ fits-u32 ⊗ fits-u8 ⊗ fits-bool ⊗ fits-end) got.Pre got.Post (λ k a. gotBy (verdictOf true a) (placeOf a) (areaOf a) (a .0))
+pub got-4-if-unconditional :
+    RuledOut (λ k. fits-Storage ⊗ fits-TaskNumber ⊗ fits-u32 ⊗ fits-u8 ⊗ fits-bool ⊗ fits-end) got.Pre got.Post
+    (λ k a. gotBy (verdictOf true a) (placeOf a) (areaOf a) (a .0))
 unfolding tables-open
 got-4-if-unconditional = wrong-at tt (asks held 131072 false) refl few (λ r. goes (r .verdict)) refl refl
 
 -- the area is put in at 0, whatever address is answered: 104
-pub got-put-in-at-0 : RuledOut (λ k. fits-Storage ⊗ fits-TaskNumber ⊗ fits-u32 ⊗ fits-u8 ⊗ fits-bool ⊗ fits-end) got.Pre got.Post (λ k a. answered a (replyAt (placeOf a)) (atZero (placeOf a)))
+pub got-put-in-at-0 :
+    RuledOut (λ k. fits-Storage ⊗ fits-TaskNumber ⊗ fits-u32 ⊗ fits-u8 ⊗ fits-bool ⊗ fits-end) got.Pre got.Post
+    (λ k a. answered a (replyAt (placeOf a)) (atZero (placeOf a)))
 unfolding tables-open
 got-put-in-at-0 =
     wrong-at tt (asks held 8 true) refl few (λ r. some (sameArea (area 0 8 10 1)) (live (r .storage))) refl refl
@@ -209,7 +210,8 @@ freeing is a =
 
 -- it says 0 and leaves the area
 pub freed-and-left :
-    RuledOut (λ k. fits-Storage ⊗ fits-TaskNumber ⊗ fits-Address ⊗ fits-u32 ⊗ fits-u8 ⊗ fits-end) freed.Pre freed.Post (λ k a. record { verdict = freeVerdict a; reply = Done 0; storage = a .0 })
+    RuledOut (λ k. fits-Storage ⊗ fits-TaskNumber ⊗ fits-Address ⊗ fits-u32 ⊗ fits-u8 ⊗ fits-end) freed.Pre freed.Post
+    (λ k a. record { verdict = freeVerdict a; reply = Done 0; storage = a .0 })
 unfolding tables-open
 freed-and-left = wrong-at tt (frees 1 100) refl few (λ r. eqb (r .storage .count) 1) refl refl
 

@@ -1,49 +1,67 @@
--- Wrong answers that the contracts of `services` rule out. Whole services that are wrong stand in Impostors and Slips. Assumes nothing.
-use Prim.Native.Nat.{ℕ, suc, _/_}
+-- Wrong answers that the contracts of `services` rule out. Each is right but for one thing: 100, the gate, the numbers
+-- and the
+-- tables are those of the rules wherever the mistake doesn't show. Whole services that are wrong stand in Impostors and
+-- Slips. Assumes nothing.
+use Prim.Native.Nat.{ℕ, _+_, _/_}
 use mathlib.Core.Path.{_≡_, refl}
-use mathlib.Core.Bool.{Bool, true, false, not, cond}
+use mathlib.Core.Bool.{Bool, true, false, not, cond, _&&_}
 use mathlib.Core.List.{List, [], _∷_}
 use lib.Dec.{eqb}
 use lib.IntN.{ℤ, pos}
 use lib.ListN.{getD, set}
-use denote.Ref.{RefT, now, at-last}
+use Rattle.lists.specs.Lists.{every, some, keep}
+use Rattle.lists.specs.Pick.{pick}
 use Rattle.kinds.specs.Limits.{region, doubleword}
-use Rattle.kinds.specs.Ranges.{endCodeGood}
-use Rattle.kinds.specs.Ecbs.{noEcb}
+use Rattle.kinds.specs.Ranges.{endCodeGood, priorityGood, ecbGood, taskGood, lengthGood, subpoolGood, addressGood}
 use Rattle.kinds.specs.Tasks.{noTask, isFree, isReady, inResourceWait}
 use Rattle.kinds.specs.declared.numbers.TaskNumber.{TaskNumber}
+use Rattle.kinds.specs.declared.numbers.EcbNumber.{EcbNumber}
+use Rattle.kinds.specs.declared.numbers.Address.{Address}
+use Rattle.kinds.specs.declared.areas.Area.{Area}
+use Rattle.kinds.specs.declared.ecbs.Ecb.{Ecb}
 use Rattle.kinds.specs.declared.tasks.Task.{Task}
 use Rattle.kinds.specs.declared.tasks.MaybeEcb.{MaybeEcb}
 use Rattle.kinds.specs.declared.tasks.MaybeEcb.the-variants.{NoEcb}
 use Rattle.kinds.specs.declared.requests.Request.{Request}
 use Rattle.kinds.specs.declared.requests.Request.the-variants.{Attach, Detach, End, Abend, Enq, Deq, Wait, Post, Clear, Getmain, Freemain, Dispatch}
+use Rattle.kinds.specs.declared.requests.Ret.{Ret}
 use Rattle.kinds.specs.declared.requests.Ret.the-variants.{None, Test}
+use Rattle.kinds.specs.declared.requests.DeqRet.{DeqRet}
 use Rattle.kinds.specs.declared.requests.DeqRet.the-variants.{None as DeqNone, Have as DeqHave}
-use Rattle.kinds.specs.declared.replies.Reply.the-variants.{Done}
+use Rattle.kinds.specs.declared.replies.Refusal.the-variants.{OutOfRange}
+use Rattle.kinds.specs.declared.replies.Fault.the-variants.{NotSubtask, NoSuchArea}
+use Rattle.kinds.specs.declared.replies.Verdict.{Verdict}
+use Rattle.kinds.specs.declared.replies.Verdict.the-variants.{Go, Refuse, Fail}
 use Rattle.names.specs.Named.{namesIn}
-use Rattle.events.specs.Blocks.{eventsOf, ecbsIn}
-use Rattle.rules.specs.Family.{place, withPlace, conditionOf}
-use Rattle.rules.specs.Steps.{Step, Outcome}
+use Rattle.events.specs.Blocks.{ecbsIn}
+use Rattle.rules.specs.Names.{Names, namesOf as resources}
+use Rattle.rules.specs.Family.{place, withPlace, conditionOf, below}
+use Rattle.rules.specs.Steps.{Step, Outcome, Served, done, refused, keptBy, overStep, withTasks, withQueue, withEcbs, withAreas}
 use Rattle.rules.specs.Table.{exc}
+use Rattle.rules.specs.Admission.{gateOf, openGate, through, settled, codesThrough}
 use Rattle.rules.specs.Codes.{writtenOn}
-use Rattle.rules.specs.Ending.{detached, ended}
-use Rattle.rules.specs.Events.{ecbAt, completed}
-use Rattle.rules.specs.Attach.{attachDone}
-use Rattle.rules.specs.Detach.{detachOf}
-use Rattle.rules.specs.End.{endOf}
-use Rattle.rules.specs.Enq.{enqOf}
-use Rattle.rules.specs.Deq.{deqOf}
-use Rattle.rules.specs.Post.{postOf}
-use Rattle.rules.specs.Storage.{lowestFrom}
-use Rattle.rules.specs.Getmain.{wanted, given}
-use Rattle.rules.specs.Freemain.{freemainDone}
+use Rattle.rules.specs.Ending.{leftBy}
+use Rattle.rules.specs.Events.{Ecbs, ecbAt, posted}
+use Rattle.rules.specs.Waits.{requeued}
+use Rattle.rules.specs.Attach.{attachBody}
+use Rattle.rules.specs.Detach.{detachDone, detachOf}
+use Rattle.rules.specs.End.{endDone, endOf}
+use Rattle.rules.specs.Abend.{abendVerdict}
+use Rattle.rules.specs.Enq.{enqCodes, enqVerdict, enqOf}
+use Rattle.rules.specs.Deq.{released, deqVerdict, deqOf}
+use Rattle.rules.specs.Wait.{waitOf}
+use Rattle.rules.specs.Post.{postVerdict, postOf}
+use Rattle.rules.specs.Clear.{clearDone, clearOf}
+use Rattle.rules.specs.Storage.{startOf, oneHolder, areaAt, lowestFrom}
+use Rattle.rules.specs.Getmain.{wanted, given, getmainVerdict}
+use Rattle.rules.specs.Freemain.{freemainOf}
+use Rattle.rules.specs.Dispatch.{noBetter}
 use Rattle.rules.specs.Sound.{soundStep}
 use Rattle.rules.specs.Fresh.{freshStep}
 use Rattle.rules.specs.Serve.{serviceOf}
 use Rattle.history.specs.Samples.{start, x}
-use Rattle.services.specs.Kept.{stepOf, tablesOf, withFamily, withQueue, withSignals, soundb, answered}
+use Rattle.services.specs.Kept.{stepOf, tablesOf, withQueue as withEntries, soundb, answered}
 use Rattle.services.specs.declared.Tables.{Tables}
-use Rattle.services.specs.declared.Answer.{Answer}
 use Rattle.services.proofs.Tables.sound.Reads as sound
 use Rattle.services.proofs.Tables.fresh.Reads as fresh
 use Rattle.services.proofs.Tables.dispatch.Reads as dispatch
@@ -62,239 +80,365 @@ use Rattle.services.proofs.Tables.serve.Reads as serve
 use Rattle.impostors.specs.Fitting.{_⊗_, fits-Address, fits-DeqRet, fits-EcbList, fits-EcbNumber, fits-MaybeEcb, fits-NameList, fits-Request, fits-Ret, fits-Tables, fits-TaskNumber, fits-bool, fits-end, fits-i16, fits-lent, fits-u16, fits-u32, fits-u8}
 use Rattle.impostors.specs.Opened.{tables-open}
 use Rattle.impostors.specs.Wrong.{told-apart, RuledOut, wrong-at, RuledOutWith, wrong-with, Heeds, heeds}
-use Rattle.impostors.specs.Samples.{Asking, task, ecb, namesOf, ecbsOf, daughter, after, twoGenerations, withEcb, daughterOwns, owned, awaited, postedOnce, waitedOn, oneArea}
-
--- done, with these tables
-abbrev done : ℕ → Tables → Answer
-done besides t = record { tables = t; reply = Done besides }
-
--- done, whatever the rules say of it
-abbrev said-done : Outcome Step → Answer
-said-done o = done (o .besides) (tablesOf (o .tables))
-
--- a codes area that is lent, and an answer with what it holds in the end
-abbrev lent : List ℕ → RefT (List ℕ)
-lent l = record { ptr = (0, 0); name = 0; now = l }
-
-abbrev with-codes : {A B C D : Type 0} → A × (B × (C × (D × (RefT (List ℕ) × Unit {0})))) → Answer → List ℕ
-    → Answer × (A × (B × (C × (D × (RefT (List ℕ) × Unit {0})))))
-with-codes a r codes = (r, (a .0, (a .1 .0, (a .1 .1 .0, (a .1 .1 .1 .0, (at-last (a .1 .1 .1 .1 .0) codes, tt))))))
+use Rattle.impostors.specs.Samples.{Asking, task, ecb, namesOf, ecbsOf, after, oneDaughter, twoGenerations, withEcb, daughterOwns, owned, awaited, postedOnce, waitedOn, oneArea}
+use Rattle.impostors.specs.Parts.{lent, address}
+use Rattle.impostors.specs.Answers.{answerOf, answering, but, butServed, coding}
 
 -- the tables after a run from a fresh step
 abbrev tables : List Asking → Tables
 tables l = tablesOf (after start l)
 
+-- task n is in a resource wait; is ready
 abbrev waits : ℕ → Tables → Bool
 waits n t = inResourceWait (conditionOf (t .family .places) n)
 
+abbrev runs : ℕ → Tables → Bool
+runs n t = isReady (conditionOf (t .family .places) n)
+
+-- what a service does for a caller that the gate lets through
+abbrev behindGate : Step → TaskNumber → Verdict → Outcome Step → Outcome Step
+behindGate s c v o = through (gateOf s c) s (settled v s c o)
+
 -- SOUND
 
--- what stands behind the count of the queue is not looked at
-pub sound-behind-the-count : RuledOut (λ k. fits-Tables ⊗ fits-end) sound.Pre sound.Post (λ k a. soundStep (stepOf (a .0)))
+-- only the step is judged, and not how the tables keep it: an entry stands behind the count of the queue
+pub sound-behind-the-count : RuledOut (λ k. fits-Tables ⊗ fits-end) sound.Pre sound.Post
+    (λ k a. soundStep (stepOf (a .0)))
 unfolding tables-open
 sound-behind-the-count =
-    wrong-at tt (withQueue (tablesOf start) (tables owned .family) (record { slots = tables owned .queue .slots; count = 0 }), tt) refl tt (λ b. b) refl refl
+    wrong-at tt
+    (withEntries (tablesOf start) (tables owned .family) (record { slots = tables owned .queue .slots; count = 0 }), tt)
+    refl tt (λ b. b) refl refl
 
--- of a step that is over only the code is looked at
-pub sound-over-with-tasks : RuledOut (λ k. fits-Tables ⊗ fits-end) sound.Pre sound.Post (λ k a. cond (a .0 .over) (endCodeGood (a .0 .code)) (soundb (a .0)))
+-- of a step that is over only the code is looked at: it has tasks
+pub sound-over-with-tasks : RuledOut (λ k. fits-Tables ⊗ fits-end) sound.Pre sound.Post
+    (λ k a. cond (a .0 .over) (endCodeGood (a .0 .code)) (soundb (a .0)))
 unfolding tables-open
 sound-over-with-tasks =
-    wrong-at tt (tablesOf (record { over = true; code = 0; tasks = start .tasks; queue = []; ecbs = start .ecbs; areas = [] }), tt) refl tt (λ b. b) refl refl
+    wrong-at tt
+    (tablesOf (record { over = true; code = 0; tasks = start .tasks; queue = []; ecbs = start .ecbs; areas = [] }), tt)
+    refl tt (λ b. b) refl refl
 
 -- FRESH START
 
--- a dispatching priority above the limit goes through
-pub fresh-above-the-limit : RuledOut (λ k. fits-u16 ⊗ fits-u16 ⊗ fits-end) fresh.Pre fresh.Post (λ k a. done 0 (tablesOf (freshStep (a .0) (a .1 .0))))
+-- that dispatching is not above limit is not tested
+abbrev freshAnyhow : ℕ → ℕ → Outcome Step
+freshAnyhow limit dispatching =
+    pick (priorityGood limit && priorityGood dispatching) (done 0 (freshStep limit dispatching)) (refused OutOfRange (overStep 0))
+
+pub fresh-above-the-limit : RuledOut (λ k. fits-u16 ⊗ fits-u16 ⊗ fits-end) fresh.Pre fresh.Post
+    (λ k a. answerOf (keptBy tablesOf (freshAnyhow (a .0) (a .1 .0))))
 unfolding tables-open
 fresh-above-the-limit = wrong-at tt (100, (101, tt)) refl tt (λ o. eqb (o .number) 0) refl refl
 
--- the dispatching priority is not looked at
+-- the dispatching priority counts for nothing: no answer fits 100/100 and 100/101
 pub fresh-heeds-dispatching : Heeds (λ k. fits-u16 ⊗ fits-u16 ⊗ fits-end) fresh.Pre fresh.Post
 unfolding tables-open
-fresh-heeds-dispatching = heeds tt (100, (100, tt)) (100, (101, tt)) refl refl tt tt (λ o. eqb (o .number) 0) refl refl
+fresh-heeds-dispatching =
+    heeds tt (100, (100, tt)) (100, (101, tt)) refl refl tt tt (λ o. eqb (o .number) 0) refl refl
 
 -- DISPATCH
 
--- 0 although a task is ready
-pub dispatch-answers-0 : RuledOut (λ k. fits-Tables ⊗ fits-end) dispatch.Pre dispatch.Post (λ k a. done 0 (a .0))
+-- nobody is chosen, although task 1 is ready
+pub dispatch-answers-0 : RuledOut (λ k. fits-Tables ⊗ fits-end) dispatch.Pre dispatch.Post
+    (λ k a. answering (a .0) (λ s. through (openGate s) s (done 0 s)))
 unfolding tables-open
 dispatch-answers-0 = wrong-at tt (tablesOf start, tt) refl tt (λ o. eqb (o .besides) 0) refl refl
 
--- the highest number among equals: 1 and its daughter 2 both have 150
-abbrev last-ready : ℕ → List Task → ℕ
-last-ready n [] = 0
-last-ready n (x ∷ l) = cond (eqb (last-ready (suc n) l) 0) (cond (isReady (x .condition)) n 0) (last-ready (suc n) l)
+-- the highest number among equals: 2 and not 1, which both have 150
+abbrev lastBest : List Task → ℕ → ℕ → List Task → ℕ
+lastBest ts n found [] = found
+lastBest ts n found (y ∷ l) = lastBest ts (n + 1) (cond (isReady (y .condition) && every (noBetter y) ts) n found) l
 
-pub dispatch-the-last-among-equals : RuledOut (λ k. fits-Tables ⊗ fits-end) dispatch.Pre dispatch.Post (λ k a. done (last-ready 1 (a .0 .family .places)) (a .0))
+pub dispatch-the-last-among-equals : RuledOut (λ k. fits-Tables ⊗ fits-end) dispatch.Pre dispatch.Post
+    (λ k a. answering (a .0) (λ s. through (openGate s) s (done (lastBest (s .tasks) 1 0 (s .tasks)) s)))
 unfolding tables-open
-dispatch-the-last-among-equals = wrong-at tt (tables (daughter 1 ∷ []), tt) refl tt (λ o. eqb (o .besides) 2) refl refl
+dispatch-the-last-among-equals = wrong-at tt (tables oneDaughter, tt) refl tt (λ o. eqb (o .besides) 2) refl refl
 
 -- ATTACH
 
--- whoever asks is served: here 2, which waits for x
-pub attach-for-one-who-waits : RuledOut (λ k. fits-Tables ⊗ fits-TaskNumber ⊗ fits-u16 ⊗ fits-i16 ⊗ fits-MaybeEcb ⊗ fits-end) attach.Pre attach.Post
-    (λ k a. said-done (attachDone (stepOf (a .0)) (a .1 .0) (a .1 .1 .0) (a .1 .1 .1 .0) (a .1 .1 .1 .1 .0)))
+-- there is no gate: 2, which waits for x, attaches
+pub attach-with-no-gate :
+    RuledOut (λ k. fits-Tables ⊗ fits-TaskNumber ⊗ fits-u16 ⊗ fits-i16 ⊗ fits-MaybeEcb ⊗ fits-end) attach.Pre attach.Post
+    (λ k a. answering (a .0) (λ s. attachBody s (a .1 .0) (a .1 .1 .0) (a .1 .1 .1 .0) (a .1 .1 .1 .1 .0)))
 unfolding tables-open
-attach-for-one-who-waits = wrong-at tt (tables awaited, (task 2, (0, (pos 0, (NoEcb, tt))))) refl tt (λ o. eqb (o .number) 0) refl refl
+attach-with-no-gate =
+    wrong-at tt (tables awaited, (task 2, (0, (pos 0, (NoEcb, tt))))) refl tt (λ o. eqb (o .number) 0) refl refl
 
 -- LPMOD counts for nothing: no answer fits LPMOD 30 and LPMOD 0
 abbrev with-lpmod : ℕ → Tables × (TaskNumber × (ℕ × (ℤ × (MaybeEcb × Unit {0}))))
 with-lpmod n = (tablesOf start, (task 1, (n, (pos 0, (NoEcb, tt)))))
 
-pub attach-heeds-lpmod : Heeds (λ k. fits-Tables ⊗ fits-TaskNumber ⊗ fits-u16 ⊗ fits-i16 ⊗ fits-MaybeEcb ⊗ fits-end) attach.Pre attach.Post
+pub attach-heeds-lpmod :
+    Heeds (λ k. fits-Tables ⊗ fits-TaskNumber ⊗ fits-u16 ⊗ fits-i16 ⊗ fits-MaybeEcb ⊗ fits-end) attach.Pre attach.Post
 unfolding tables-open
-attach-heeds-lpmod = heeds tt (with-lpmod 30) (with-lpmod 0) refl refl tt tt (λ o. eqb (place (o .tables .family .places) 2 .limit) 170) refl refl
+attach-heeds-lpmod =
+    heeds tt (with-lpmod 30) (with-lpmod 0) refl refl tt tt
+    (λ o. eqb (place (o .tables .family .places) 2 .limit) 170) refl refl
 
 -- DETACH
 
--- any task may be detached: here 3, a daughter of 2, by 1
-pub detach-of-a-granddaughter : RuledOut (λ k. fits-Tables ⊗ fits-TaskNumber ⊗ fits-TaskNumber ⊗ fits-end) detach.Pre detach.Post (λ k a. done 0 (tablesOf (detached (stepOf (a .0)) (a .1 .1 .0 .0))))
-unfolding tables-open
-detach-of-a-granddaughter = wrong-at tt (tables twoGenerations, (task 1, (task 3, tt))) refl tt (λ o. eqb (o .number) 0) refl refl
+-- every task below may be detached: 3, the daughter of 2, by 1
+abbrev detachBelow : Step → TaskNumber → TaskNumber → Outcome Step
+detachBelow s c n =
+    behindGate s c
+    (pick (taskGood (n .0))
+    (pick (not (eqb (n .0) (c .0)) && below (s .tasks) (c .0) (n .0)) Go (Fail NotSubtask))
+    (Refuse OutOfRange))
+    (detachDone s n)
 
--- the entries of those who go stay: 2 owned x
-pub detach-leaves-the-entries : RuledOut (λ k. fits-Tables ⊗ fits-TaskNumber ⊗ fits-TaskNumber ⊗ fits-end) detach.Pre detach.Post
-    (λ k a. done 0 (withQueue (tablesOf (detachOf (stepOf (a .0)) (a .1 .0) (a .1 .1 .0) .tables)) (tablesOf (detachOf (stepOf (a .0)) (a .1 .0) (a .1 .1 .0) .tables) .family) (a .0 .queue)))
+pub detach-of-a-granddaughter :
+    RuledOut (λ k. fits-Tables ⊗ fits-TaskNumber ⊗ fits-TaskNumber ⊗ fits-end) detach.Pre detach.Post
+    (λ k a. answering (a .0) (λ s. detachBelow s (a .1 .0) (a .1 .1 .0)))
 unfolding tables-open
-detach-leaves-the-entries = wrong-at tt (tables daughterOwns, (task 1, (task 2, tt))) refl tt (λ o. eqb (o .tables .queue .count) 1) refl refl
+detach-of-a-granddaughter =
+    wrong-at tt (tables twoGenerations, (task 1, (task 3, tt))) refl tt (λ o. eqb (o .number) 0) refl refl
+
+-- the queue stays as it was: 2 owned x, and is detached
+pub detach-leaves-the-entries :
+    RuledOut (λ k. fits-Tables ⊗ fits-TaskNumber ⊗ fits-TaskNumber ⊗ fits-end) detach.Pre detach.Post
+    (λ k a. answering (a .0) (λ s. but (detachOf s (a .1 .0) (a .1 .1 .0)) (λ u. withQueue u (u .tasks) (s .queue))))
+unfolding tables-open
+detach-leaves-the-entries =
+    wrong-at tt (tables daughterOwns, (task 1, (task 2, tt))) refl tt (λ o. eqb (o .tables .queue .count) 1) refl refl
 
 -- END
 
--- a caller that has a subtask ends
-pub end-with-a-subtask : RuledOut (λ k. fits-Tables ⊗ fits-TaskNumber ⊗ fits-u16 ⊗ fits-end) end.Pre end.Post (λ k a. done 0 (tablesOf (ended (stepOf (a .0)) (a .1 .0 .0) (a .1 .1 .0))))
+-- there is no 207: 2 ends, and has a daughter
+pub end-with-a-subtask : RuledOut (λ k. fits-Tables ⊗ fits-TaskNumber ⊗ fits-u16 ⊗ fits-end) end.Pre end.Post
+    (λ k a. answering (a .0) (λ s. behindGate s (a .1 .0)
+    (pick (endCodeGood (a .1 .1 .0)) Go (Refuse OutOfRange)) (endDone s (a .1 .0) (a .1 .1 .0))))
 unfolding tables-open
 end-with-a-subtask = wrong-at tt (tables twoGenerations, (task 2, (0, tt))) refl tt (λ o. eqb (o .number) 0) refl refl
 
--- the ECB that the caller was attached with is not posted
+-- no ECB is posted: 2 was attached with ECB 0
 pub end-posts-nothing : RuledOut (λ k. fits-Tables ⊗ fits-TaskNumber ⊗ fits-u16 ⊗ fits-end) end.Pre end.Post
-    (λ k a. done 0 (withSignals (tablesOf (endOf (stepOf (a .0)) (a .1 .0) (a .1 .1 .0) .tables)) (a .0 .events) (tablesOf (endOf (stepOf (a .0)) (a .1 .0) (a .1 .1 .0) .tables) .family)))
+    (λ k a. answering (a .0) (λ s. but (endOf s (a .1 .0) (a .1 .1 .0)) (λ u. withEcbs u (u .tasks) (s .ecbs))))
 unfolding tables-open
-end-posts-nothing = wrong-at tt (tables withEcb, (task 2, (7, tt))) refl tt (λ o. not (ecbAt (o .tables .events .ecbs) 0 .complete)) refl refl
+end-posts-nothing =
+    wrong-at tt (tables withEcb, (task 2, (7, tt))) refl tt
+    (λ o. not (ecbAt (o .tables .events .ecbs) 0 .complete)) refl refl
 
 -- ABEND
 
--- STEP counts for nothing
+-- STEP counts for nothing: no answer fits both of 2's
 pub abend-heeds-step : Heeds (λ k. fits-Tables ⊗ fits-TaskNumber ⊗ fits-u16 ⊗ fits-bool ⊗ fits-end) abend.Pre abend.Post
 unfolding tables-open
 abend-heeds-step =
-    heeds tt (tables (daughter 1 ∷ []), (task 2, (0, (true, tt)))) (tables (daughter 1 ∷ []), (task 2, (0, (false, tt)))) refl refl tt tt (λ o. o .tables .over) refl refl
+    heeds tt (tables oneDaughter, (task 2, (0, (true, tt)))) (tables oneDaughter, (task 2, (0, (false, tt)))) refl refl
+    tt tt
+    (λ o. o .tables .over) refl refl
 
--- the caller ends alone: its daughter 3 stays
-pub abend-leaves-the-daughters : RuledOut (λ k. fits-Tables ⊗ fits-TaskNumber ⊗ fits-u16 ⊗ fits-bool ⊗ fits-end) abend.Pre abend.Post
-    (λ k a. done 0 (withFamily (a .0) (record { places = withPlace (a .0 .family .places) (a .1 .0 .0) noTask })))
+-- the caller ends alone: 3, the daughter of 2, stays
+abbrev abendAlone : Step → TaskNumber → ℕ → Bool → Outcome Step
+abendAlone s c code step =
+    behindGate s c (abendVerdict code)
+    (pick step (done 0 (overStep code)) (done 0 (leftBy s (withPlace (s .tasks) (c .0) noTask))))
+
+pub abend-leaves-the-daughters :
+    RuledOut (λ k. fits-Tables ⊗ fits-TaskNumber ⊗ fits-u16 ⊗ fits-bool ⊗ fits-end) abend.Pre abend.Post
+    (λ k a. answering (a .0) (λ s. abendAlone s (a .1 .0) (a .1 .1 .0) (a .1 .1 .1 .0)))
 unfolding tables-open
 abend-leaves-the-daughters =
-    wrong-at tt (tables twoGenerations, (task 2, (0, (false, tt)))) refl tt (λ o. not (isFree (conditionOf (o .tables .family .places) 3))) refl refl
+    wrong-at tt (tables twoGenerations, (task 2, (0, (false, tt)))) refl tt
+    (λ o. not (isFree (conditionOf (o .tables .family .places) 3))) refl refl
 
 -- ENQ
 
--- the caller goes on without control: 2 asks for what 1 owns
-pub enq-goes-on-without-control : RuledOutWith (λ k. fits-Tables ⊗ fits-TaskNumber ⊗ fits-Ret ⊗ fits-NameList ⊗ fits-lent ⊗ fits-end) enq.Pre enq.Post
-    (λ k a. with-codes a (done 0 (withFamily (tablesOf (enqOf (stepOf (a .0)) (a .1 .0) (a .1 .1 .0) (namesIn (a .1 .1 .1 .0)) [] .outcome .tables)) (a .0 .family))) (now (a .1 .1 .1 .1 .0)))
+-- no task comes to wait: 2 asks for what 1 owns, and goes on
+pub enq-goes-on-without-control :
+    RuledOutWith (λ k. fits-Tables ⊗ fits-TaskNumber ⊗ fits-Ret ⊗ fits-NameList ⊗ fits-lent ⊗ fits-end) enq.Pre enq.Post
+    (λ k a. coding a (λ s area.
+    butServed (enqOf s (a .1 .0) (a .1 .1 .0) (namesIn (a .1 .1 .1 .0)) area) (λ u. withTasks u (s .tasks))))
 unfolding tables-open
 enq-goes-on-without-control =
-    wrong-with ([], tt) (tables owned, (task 2, (None, (namesOf (exc x ∷ []), (lent [], tt))))) refl tt (λ o. not (waits 2 (o .outcome .tables))) refl refl
+    wrong-with ([], tt) (tables owned, (task 2, (None, (namesOf (exc x ∷ []), (lent [], tt))))) refl tt
+    (λ o. not (waits 2 (o .outcome .tables))) refl refl
 
--- NONE writes codes
-pub enq-writes-codes-under-none : RuledOutWith (λ k. fits-Tables ⊗ fits-TaskNumber ⊗ fits-Ret ⊗ fits-NameList ⊗ fits-lent ⊗ fits-end) enq.Pre enq.Post
-    (λ k a. with-codes a (said-done (enqOf (stepOf (a .0)) (a .1 .0) (a .1 .1 .0) (namesIn (a .1 .1 .1 .0)) [] .outcome)) (writtenOn (0 ∷ []) (now (a .1 .1 .1 .1 .0))))
+-- codes are written under every RET kind: NONE for x
+abbrev enqWrites : Step → TaskNumber → Ret → Names → List ℕ → Served Step
+enqWrites s c ret l area = record {
+  outcome = enqOf s c ret l area .outcome;
+  codes =
+      codesThrough (gateOf s c) (enqVerdict (s .queue) c ret l area) area (writtenOn (enqCodes ret (s .queue) (c .0) l) area);
+}
+
+pub enq-writes-codes-under-none :
+    RuledOutWith (λ k. fits-Tables ⊗ fits-TaskNumber ⊗ fits-Ret ⊗ fits-NameList ⊗ fits-lent ⊗ fits-end) enq.Pre enq.Post
+    (λ k a. coding a (λ s area. enqWrites s (a .1 .0) (a .1 .1 .0) (namesIn (a .1 .1 .1 .0)) area))
 unfolding tables-open
 enq-writes-codes-under-none =
-    wrong-with ([], tt) (tablesOf start, (task 1, (None, (namesOf (exc x ∷ []), (lent (238 ∷ []), tt))))) refl tt (λ o. eqb (getD (o .codes) 0 238) 0) refl refl
+    wrong-with ([], tt) (tablesOf start, (task 1, (None, (namesOf (exc x ∷ []), (lent (238 ∷ []), tt))))) refl tt
+    (λ o. eqb (getD (o .codes) 0 238) 0) refl refl
 
 -- DEQ
 
 -- nobody is granted what was released: 2 waits on
-pub deq-grants-nothing : RuledOutWith (λ k. fits-Tables ⊗ fits-TaskNumber ⊗ fits-DeqRet ⊗ fits-NameList ⊗ fits-lent ⊗ fits-end) deq.Pre deq.Post
-    (λ k a. with-codes a (done 0 (withFamily (tablesOf (deqOf (stepOf (a .0)) (a .1 .0) (a .1 .1 .0) (namesIn (a .1 .1 .1 .0)) [] .outcome .tables)) (a .0 .family))) (now (a .1 .1 .1 .1 .0)))
+pub deq-grants-nothing :
+    RuledOutWith (λ k. fits-Tables ⊗ fits-TaskNumber ⊗ fits-DeqRet ⊗ fits-NameList ⊗ fits-lent ⊗ fits-end) deq.Pre deq.Post
+    (λ k a. coding a (λ s area.
+    butServed (deqOf s (a .1 .0) (a .1 .1 .0) (namesIn (a .1 .1 .1 .0)) area) (λ u. withTasks u (s .tasks))))
 unfolding tables-open
 deq-grants-nothing =
-    wrong-with ([], tt) (tables awaited, (task 1, (DeqNone, (namesOf (exc x ∷ []), (lent [], tt))))) refl tt (λ o. waits 2 (o .outcome .tables)) refl refl
+    wrong-with ([], tt) (tables awaited, (task 1, (DeqNone, (namesOf (exc x ∷ []), (lent [], tt))))) refl tt
+    (λ o. waits 2 (o .outcome .tables)) refl refl
 
--- 0 although a code is 8
-pub deq-says-0-with-a-code-8 : RuledOutWith (λ k. fits-Tables ⊗ fits-TaskNumber ⊗ fits-DeqRet ⊗ fits-NameList ⊗ fits-lent ⊗ fits-end) deq.Pre deq.Post (λ k a. with-codes a (done 0 (a .0)) (writtenOn (8 ∷ []) (now (a .1 .1 .1 .1 .0))))
+-- 0 although a code is 8: x, which nobody has an entry for
+abbrev deqSaysZero : Step → TaskNumber → DeqRet → Names → List ℕ → Served Step
+deqSaysZero s c ret l area = record {
+  outcome =
+      behindGate s c (deqVerdict (s .queue) c ret l area) (done 0 (requeued s (released (c .0) (resources l) (s .queue))));
+  codes = deqOf s c ret l area .codes;
+}
+
+pub deq-says-0-with-a-code-8 :
+    RuledOutWith (λ k. fits-Tables ⊗ fits-TaskNumber ⊗ fits-DeqRet ⊗ fits-NameList ⊗ fits-lent ⊗ fits-end) deq.Pre deq.Post
+    (λ k a. coding a (λ s area. deqSaysZero s (a .1 .0) (a .1 .1 .0) (namesIn (a .1 .1 .1 .0)) area))
 unfolding tables-open
 deq-says-0-with-a-code-8 =
-    wrong-with ([], tt) (tablesOf start, (task 1, (DeqHave, (namesOf (exc x ∷ []), (lent (238 ∷ []), tt))))) refl tt (λ o. eqb (o .outcome .number) 0) refl refl
+    wrong-with ([], tt) (tablesOf start, (task 1, (DeqHave, (namesOf (exc x ∷ []), (lent (238 ∷ []), tt))))) refl tt
+    (λ o. eqb (o .outcome .number) 0) refl refl
 
 -- WAIT
 
--- the caller goes on with too few complete
-pub wait-goes-on-with-too-few : RuledOut (λ k. fits-Tables ⊗ fits-TaskNumber ⊗ fits-EcbList ⊗ fits-u32 ⊗ fits-end) wait.Pre wait.Post (λ k a. done 0 (a .0))
+-- nobody ever waits: 1 goes on although ECB 3 is not complete
+pub wait-goes-on-with-too-few :
+    RuledOut (λ k. fits-Tables ⊗ fits-TaskNumber ⊗ fits-EcbList ⊗ fits-u32 ⊗ fits-end) wait.Pre wait.Post
+    (λ k a. answering (a .0) (λ s. but (waitOf s (a .1 .0) (ecbsIn (a .1 .1 .0)) (a .1 .1 .1 .0))
+    (λ u. withEcbs u (s .tasks) (s .ecbs))))
 unfolding tables-open
 wait-goes-on-with-too-few =
-    wrong-at tt (tablesOf start, (task 1, (ecbsOf (3 ∷ []), (1, tt)))) refl tt (λ o. isReady (conditionOf (o .tables .family .places) 1)) refl refl
+    wrong-at tt (tablesOf start, (task 1, (ecbsOf (3 ∷ []), (1, tt)))) refl tt (λ o. runs 1 (o .tables)) refl refl
 
 -- the count is not looked at: 0 goes on, and 1 waits
-pub wait-heeds-the-count : Heeds (λ k. fits-Tables ⊗ fits-TaskNumber ⊗ fits-EcbList ⊗ fits-u32 ⊗ fits-end) wait.Pre wait.Post
+pub wait-heeds-the-count :
+    Heeds (λ k. fits-Tables ⊗ fits-TaskNumber ⊗ fits-EcbList ⊗ fits-u32 ⊗ fits-end) wait.Pre wait.Post
 unfolding tables-open
 wait-heeds-the-count =
-    heeds tt (tablesOf start, (task 1, (ecbsOf (3 ∷ []), (0, tt)))) (tablesOf start, (task 1, (ecbsOf (3 ∷ []), (1, tt)))) refl refl tt tt
-    (λ o. isReady (conditionOf (o .tables .family .places) 1)) refl refl
+    heeds tt (tablesOf start, (task 1, (ecbsOf (3 ∷ []), (0, tt))))
+    (tablesOf start, (task 1, (ecbsOf (3 ∷ []), (1, tt))))
+    refl refl tt tt (λ o. runs 1 (o .tables)) refl refl
 
 -- POST
 
--- the code of a complete ECB is replaced
-pub post-replaces-the-code : RuledOut (λ k. fits-Tables ⊗ fits-TaskNumber ⊗ fits-EcbNumber ⊗ fits-u32 ⊗ fits-end) post.Pre post.Post
-    (λ k a. done 0 (withSignals (a .0) (eventsOf (set (a .0 .events .ecbs) (a .1 .1 .0 .0) (completed (a .1 .1 .1 .0)))) (a .0 .family)))
-unfolding tables-open
-post-replaces-the-code = wrong-at tt (tables postedOnce, (task 1, (ecb 3, (7, tt)))) refl tt (λ o. eqb (ecbAt (o .tables .events .ecbs) 3 .code) 7) refl refl
+-- a complete ECB is posted again: 5 is replaced by 7
+abbrev incomplete : Ecb → Ecb
+incomplete e = record { waiter = e .waiter; complete = false; code = e .code }
 
--- the waiter is not let go, and the ECB is done right
-posted-ready : not (isReady (conditionOf (answered (tables waitedOn) (λ s. postOf s (task 1) (ecb 3) 5) .tables .family .places) 2)) ≡ false
-unfolding tables-open
-posted-ready = refl
+abbrev postsAgain : Step → TaskNumber → EcbNumber → ℕ → Outcome Step
+postsAgain s c e code =
+    behindGate s c (postVerdict e code)
+    (done 0 (posted (withEcbs s (s .tasks) (set (s .ecbs) (e .0) (incomplete (ecbAt (s .ecbs) (e .0))))) (e .0) code))
 
-pub post-leaves-the-waiter : RuledOut (λ k. fits-Tables ⊗ fits-TaskNumber ⊗ fits-EcbNumber ⊗ fits-u32 ⊗ fits-end) post.Pre post.Post
-    (λ k a. let e = ecbAt (a .0 .events .ecbs) (a .1 .1 .0 .0) in done 0 (withSignals (a .0) (eventsOf (set (a .0 .events .ecbs) (a .1 .1 .0 .0) (cond (e .complete) e (completed (a .1 .1 .1 .0))))) (a .0 .family)))
+pub post-replaces-the-code :
+    RuledOut (λ k. fits-Tables ⊗ fits-TaskNumber ⊗ fits-EcbNumber ⊗ fits-u32 ⊗ fits-end) post.Pre post.Post
+    (λ k a. answering (a .0) (λ s. postsAgain s (a .1 .0) (a .1 .1 .0) (a .1 .1 .1 .0)))
+unfolding tables-open
+post-replaces-the-code =
+    wrong-at tt (tables postedOnce, (task 1, (ecb 3, (7, tt)))) refl tt
+    (λ o. eqb (ecbAt (o .tables .events .ecbs) 3 .code) 7) refl refl
+
+-- no task goes on: 2 waits for ECB 3
+abbrev postsTo : Step → TaskNumber → EcbNumber → ℕ → Outcome Step
+postsTo s c e code = but (postOf s c e code) (λ u. withTasks u (s .tasks))
+
+still-waits : not (runs 2 (answered (tables waitedOn) (λ s. postsTo s (task 1) (ecb 3) 5) .tables)) ≡ true
+unfolding tables-open
+still-waits = refl
+
+goes-on : not (runs 2 (answered (tables waitedOn) (λ s. postOf s (task 1) (ecb 3) 5) .tables)) ≡ false
+unfolding tables-open
+goes-on = refl
+
+pub post-leaves-the-waiter :
+    RuledOut (λ k. fits-Tables ⊗ fits-TaskNumber ⊗ fits-EcbNumber ⊗ fits-u32 ⊗ fits-end) post.Pre post.Post
+    (λ k a. answering (a .0) (λ s. postsTo s (a .1 .0) (a .1 .1 .0) (a .1 .1 .1 .0)))
 unfolding tables-open
 post-leaves-the-waiter = record {
   lifetimes = tt;
   given = (tables waitedOn, (task 1, (ecb 3, (5, tt))));
   fitting = refl;
   asked = tt;
-  broken = λ e p. told-apart p (λ o. not (isReady (conditionOf (o .tables .family .places) 2))) refl posted-ready;
+  broken = λ e p. told-apart p (λ o. not (runs 2 (o .tables))) still-waits goes-on;
 }
 
 -- CLEAR
 
--- an ECB that is waited on is cleared
-pub clear-of-one-waited-on : RuledOut (λ k. fits-Tables ⊗ fits-TaskNumber ⊗ fits-EcbNumber ⊗ fits-end) clear.Pre clear.Post
-    (λ k a. done 0 (withSignals (a .0) (eventsOf (set (a .0 .events .ecbs) (a .1 .1 .0 .0) noEcb)) (a .0 .family)))
+-- there is no 109: 2 waits on ECB 3
+pub clear-of-one-waited-on :
+    RuledOut (λ k. fits-Tables ⊗ fits-TaskNumber ⊗ fits-EcbNumber ⊗ fits-end) clear.Pre clear.Post
+    (λ k a. answering (a .0) (λ s. behindGate s (a .1 .0)
+    (pick (ecbGood (a .1 .1 .0 .0)) Go (Refuse OutOfRange)) (clearDone s (a .1 .1 .0))))
 unfolding tables-open
 clear-of-one-waited-on = wrong-at tt (tables waitedOn, (task 1, (ecb 3, tt))) refl tt (λ o. eqb (o .number) 0) refl refl
 
--- the word stays
-pub clear-leaves-the-word : RuledOut (λ k. fits-Tables ⊗ fits-TaskNumber ⊗ fits-EcbNumber ⊗ fits-end) clear.Pre clear.Post (λ k a. done 0 (a .0))
+-- no word changes: ECB 3 stays complete
+pub clear-leaves-the-word :
+    RuledOut (λ k. fits-Tables ⊗ fits-TaskNumber ⊗ fits-EcbNumber ⊗ fits-end) clear.Pre clear.Post
+    (λ k a. answering (a .0) (λ s. but (clearOf s (a .1 .0) (a .1 .1 .0)) (λ u. withEcbs u (u .tasks) (s .ecbs))))
 unfolding tables-open
-clear-leaves-the-word = wrong-at tt (tables postedOnce, (task 1, (ecb 3, tt))) refl tt (λ o. ecbAt (o .tables .events .ecbs) 3 .complete) refl refl
+clear-leaves-the-word =
+    wrong-at tt (tables postedOnce, (task 1, (ecb 3, tt))) refl tt (λ o. ecbAt (o .tables .events .ecbs) 3 .complete)
+    refl refl
 
 -- GETMAIN
 
--- the lowest address is passed over
-pub getmain-passes-over-the-lowest : RuledOut (λ k. fits-Tables ⊗ fits-TaskNumber ⊗ fits-u32 ⊗ fits-u8 ⊗ fits-bool ⊗ fits-end) getmain.Pre getmain.Post
-    (λ k a. let s = stepOf (a .0) in let w = wanted (a .1 .1 .0) (a .1 .1 .1 .0) (a .1 .0 .0) in said-done (given s w (lowestFrom (region / doubleword) (s .areas) w doubleword)))
-unfolding tables-open
-getmain-passes-over-the-lowest = wrong-at tt (tablesOf start, (task 1, (100, (10, (false, tt))))) refl tt (λ o. eqb (o .besides) 8) refl refl
+-- the search begins at 8, and address 0 is never given
+abbrev getmainFrom8 : Step → TaskNumber → ℕ → ℕ → Bool → Outcome Step
+getmainFrom8 s c bytes subpool conditional =
+    let w = wanted bytes subpool (c .0) in
+    behindGate s c (getmainVerdict (s .areas) c bytes subpool conditional)
+    (given s w (lowestFrom (region / doubleword) (s .areas) w doubleword))
 
--- the subpool counts for nothing: behind 100 bytes of subpool 10 there is room at 104 for subpool 10, and for another on the next page only
-pub getmain-heeds-the-subpool : Heeds (λ k. fits-Tables ⊗ fits-TaskNumber ⊗ fits-u32 ⊗ fits-u8 ⊗ fits-bool ⊗ fits-end) getmain.Pre getmain.Post
+pub getmain-never-at-0 :
+    RuledOut (λ k. fits-Tables ⊗ fits-TaskNumber ⊗ fits-u32 ⊗ fits-u8 ⊗ fits-bool ⊗ fits-end) getmain.Pre getmain.Post
+    (λ k a. answering (a .0) (λ s. getmainFrom8 s (a .1 .0) (a .1 .1 .0) (a .1 .1 .1 .0) (a .1 .1 .1 .1 .0)))
+unfolding tables-open
+getmain-never-at-0 =
+    wrong-at tt (tablesOf start, (task 1, (100, (10, (false, tt))))) refl tt (λ o. eqb (o .besides) 8) refl refl
+
+-- the subpool counts for nothing: behind 100 bytes of subpool 10 there is room at 104 for subpool 10, and for another
+-- on the
+-- next page only
+pub getmain-heeds-the-subpool :
+    Heeds (λ k. fits-Tables ⊗ fits-TaskNumber ⊗ fits-u32 ⊗ fits-u8 ⊗ fits-bool ⊗ fits-end) getmain.Pre getmain.Post
 unfolding tables-open
 getmain-heeds-the-subpool =
-    heeds tt (tables oneArea, (task 1, (8, (10, (false, tt))))) (tables oneArea, (task 1, (8, (5, (false, tt))))) refl refl tt tt (λ o. eqb (o .besides) 104) refl refl
+    heeds tt (tables oneArea, (task 1, (8, (10, (false, tt))))) (tables oneArea, (task 1, (8, (5, (false, tt))))) refl
+    refl tt tt
+    (λ o. eqb (o .besides) 104) refl refl
 
 -- FREEMAIN
 
--- whatever is named is freed: here the first 8 bytes of an area of 100
-pub freemain-of-a-part : RuledOut (λ k. fits-Tables ⊗ fits-TaskNumber ⊗ fits-Address ⊗ fits-u32 ⊗ fits-u8 ⊗ fits-end) freemain.Pre freemain.Post
-    (λ k a. said-done (freemainDone (stepOf (a .0)) (a .1 .0) (a .1 .1 .0) (a .1 .1 .1 .0) (a .1 .1 .1 .1 .0)))
-unfolding tables-open
-freemain-of-a-part = wrong-at tt (tables oneArea, (task 1, (record { 0 = 0 }, (8, (10, tt))))) refl tt (λ o. eqb (o .number) 0) refl refl
+-- the length is not compared: 8 bytes are named, and an area of 100 is freed
+abbrev startsAs : Area → Area → Bool
+startsAs a b = eqb (startOf a) (startOf b) && oneHolder a b
 
--- it says done and leaves the area
-pub freemain-leaves-the-area : RuledOut (λ k. fits-Tables ⊗ fits-TaskNumber ⊗ fits-Address ⊗ fits-u32 ⊗ fits-u8 ⊗ fits-end) freemain.Pre freemain.Post (λ k a. done 0 (a .0))
+abbrev freesAnyLength : Step → TaskNumber → Address → ℕ → ℕ → Outcome Step
+freesAnyLength s c at bytes subpool =
+    let a = areaAt (at .0) bytes subpool (c .0) in
+    behindGate s c
+    (pick (addressGood (at .0) && (lengthGood bytes && subpoolGood subpool))
+    (pick (some (startsAs a) (s .areas)) Go (Fail NoSuchArea))
+    (Refuse OutOfRange))
+    (done 0 (withAreas s (keep (λ (b : Area). not (startsAs a b)) (s .areas))))
+
+pub freemain-of-a-part :
+    RuledOut (λ k. fits-Tables ⊗ fits-TaskNumber ⊗ fits-Address ⊗ fits-u32 ⊗ fits-u8 ⊗ fits-end) freemain.Pre freemain.Post
+    (λ k a. answering (a .0) (λ s. freesAnyLength s (a .1 .0) (a .1 .1 .0) (a .1 .1 .1 .0) (a .1 .1 .1 .1 .0)))
 unfolding tables-open
-freemain-leaves-the-area = wrong-at tt (tables oneArea, (task 1, (record { 0 = 0 }, (100, (10, tt))))) refl tt (λ o. eqb (o .tables .storage .count) 1) refl refl
+freemain-of-a-part =
+    wrong-at tt (tables oneArea, (task 1, (address 0, (8, (10, tt))))) refl tt (λ o. eqb (o .number) 0) refl refl
+
+-- no area goes
+pub freemain-leaves-the-area :
+    RuledOut (λ k. fits-Tables ⊗ fits-TaskNumber ⊗ fits-Address ⊗ fits-u32 ⊗ fits-u8 ⊗ fits-end) freemain.Pre freemain.Post
+    (λ k a. answering (a .0) (λ s. but (freemainOf s (a .1 .0) (a .1 .1 .0) (a .1 .1 .1 .0) (a .1 .1 .1 .1 .0))
+    (λ u. withAreas u (s .areas))))
+unfolding tables-open
+freemain-leaves-the-area =
+    wrong-at tt (tables oneArea, (task 1, (address 0, (100, (10, tt))))) refl tt
+    (λ o. eqb (o .tables .storage .count) 1) refl refl
 
 -- SERVE
 
@@ -310,20 +454,26 @@ codeless (Wait c n) = Wait c n
 codeless (Post c e code) = Post c e code
 codeless (Clear c e) = Clear c e
 codeless (Getmain c bytes subpool conditional) = Getmain c bytes subpool conditional
-codeless (Freemain c address bytes subpool) = Freemain c address bytes subpool
+codeless (Freemain c at bytes subpool) = Freemain c at bytes subpool
 codeless Dispatch = Dispatch
 
-pub serve-loses-the-code : RuledOutWith (λ k. fits-Tables ⊗ fits-Request ⊗ fits-NameList ⊗ fits-EcbList ⊗ fits-lent ⊗ fits-end) serve.Pre serve.Post
-    (λ k a. with-codes a (said-done (serviceOf (stepOf (a .0)) (codeless (a .1 .0)) (namesIn (a .1 .1 .0)) (ecbsIn (a .1 .1 .1 .0)) (now (a .1 .1 .1 .1 .0)) .outcome)) (now (a .1 .1 .1 .1 .0)))
+pub serve-loses-the-code :
+    RuledOutWith (λ k. fits-Tables ⊗ fits-Request ⊗ fits-NameList ⊗ fits-EcbList ⊗ fits-lent ⊗ fits-end) serve.Pre serve.Post
+    (λ k a. coding a (λ s area. serviceOf s (codeless (a .1 .0)) (namesIn (a .1 .1 .0)) (ecbsIn (a .1 .1 .1 .0)) area))
 unfolding tables-open
 serve-loses-the-code =
     wrong-with ([], tt) (tables withEcb, (End (task 2) 7, (namesOf [], (ecbsOf [], (lent [], tt))))) refl tt
     (λ o. eqb (ecbAt (o .outcome .tables .events .ecbs) 0 .code) 0) refl refl
 
 -- no code is ever written: TEST of a name that is available is to write 0
-pub serve-writes-no-code : RuledOutWith (λ k. fits-Tables ⊗ fits-Request ⊗ fits-NameList ⊗ fits-EcbList ⊗ fits-lent ⊗ fits-end) serve.Pre serve.Post
-    (λ k a. with-codes a (said-done (serviceOf (stepOf (a .0)) (a .1 .0) (namesIn (a .1 .1 .0)) (ecbsIn (a .1 .1 .1 .0)) (now (a .1 .1 .1 .1 .0)) .outcome)) (now (a .1 .1 .1 .1 .0)))
+abbrev uncoded : Step → Request → Names → Ecbs → List ℕ → Served Step
+uncoded s r ns es area = record { outcome = serviceOf s r ns es area .outcome; codes = area }
+
+pub serve-writes-no-code :
+    RuledOutWith (λ k. fits-Tables ⊗ fits-Request ⊗ fits-NameList ⊗ fits-EcbList ⊗ fits-lent ⊗ fits-end) serve.Pre serve.Post
+    (λ k a. coding a (λ s area. uncoded s (a .1 .0) (namesIn (a .1 .1 .0)) (ecbsIn (a .1 .1 .1 .0)) area))
 unfolding tables-open
 serve-writes-no-code =
-    wrong-with ([], tt) (tablesOf start, (Enq (task 1) Test, (namesOf (exc x ∷ []), (ecbsOf [], (lent (238 ∷ []), tt))))) refl tt
+    wrong-with ([], tt)
+    (tablesOf start, (Enq (task 1) Test, (namesOf (exc x ∷ []), (ecbsOf [], (lent (238 ∷ []), tt))))) refl tt
     (λ o. eqb (getD (o .codes) 0 0) 238) refl refl

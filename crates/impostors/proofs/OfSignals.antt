@@ -43,9 +43,7 @@ use Rattle.impostors.specs.Fitting.{_⊗_, fits-EcbList, fits-EcbNumber,
 use Rattle.impostors.specs.Opened.{tables-open}
 use Rattle.impostors.specs.Wrong.{RuledOut, wrong-at, told-apart}
 use Rattle.impostors.specs.Samples.{task, ecb, ecbsOf}
-use Rattle.impostors.proofs.OfSubtasks.{verdictNumber}
-use Rattle.impostors.proofs.OfFamily.{family, first, ready, held, waiting, ended}
-use Rattle.impostors.proofs.OfEvents.{events, awaited}
+use Rattle.impostors.specs.Parts.{verdictNumber, family, first, ready, held, waiting, ended, events, awaited}
 
 -- task 1 and its daughter 2, which is ready; which waits for so many posts
 abbrev two : Family
@@ -76,7 +74,8 @@ abbrev onlyOfTasks : List Task → Ecb → Bool
 onlyOfTasks ts x = not (taskGood (x .waiter .0)) || inEcbWait (conditionOf ts (x .waiter .0))
 
 pub waiters-good-with-waiter-33 :
-    RuledOut (λ k. fits-Events ⊗ fits-Family ⊗ fits-end) waiters-good.Pre waiters-good.Post (λ k a. every (onlyOfTasks (a .1 .0 .places)) (a .0 .ecbs))
+    RuledOut (λ k. fits-Events ⊗ fits-Family ⊗ fits-end) waiters-good.Pre waiters-good.Post
+    (λ k a. every (onlyOfTasks (a .1 .0 .places)) (a .0 .ecbs))
 unfolding tables-open
 waiters-good-with-waiter-33 = wrong-at tt (events (awaited 33 ∷ []), (two, tt)) refl tt (λ b. b) refl refl
 
@@ -115,11 +114,13 @@ needs-good-by-all-wait-bits = record {
 abbrev replaces : List Task → List Ecb → ℕ → ℕ → Signals
 replaces ts es n code = woken ts (set es n (completed code)) (ecbAt es n .waiter .0)
 
-pub post-replaces-a-code : RuledOut (λ k. fits-Events ⊗ fits-Family ⊗ fits-EcbNumber ⊗ fits-u32 ⊗ fits-end) post.Pre post.Post
+pub post-replaces-a-code :
+    RuledOut (λ k. fits-Events ⊗ fits-Family ⊗ fits-EcbNumber ⊗ fits-u32 ⊗ fits-end) post.Pre post.Post
     (λ k a. signalsOf (replaces (a .1 .0 .places) (a .0 .ecbs) (a .1 .1 .0 .0) (a .1 .1 .1 .0)))
 unfolding tables-open
 post-replaces-a-code =
-    wrong-at tt (oneComplete, (two, (ecb 0, (9, tt)))) refl (omega arith) (λ s. eqb (ecbAt (s .events .ecbs) 0 .code) 9) refl refl
+    wrong-at tt (oneComplete, (two, (ecb 0, (9, tt)))) refl (omega arith) (λ s. eqb (ecbAt (s .events .ecbs) 0 .code) 9)
+    refl refl
 
 -- a waiter that needs two posts is ready after one
 abbrev wakes : List Task → List Ecb → ℕ → ℕ → Signals
@@ -128,7 +129,8 @@ wakes ts es n code =
     (signalled ts es n code)
     (comesTo ts (set es n (completed code)) (ecbAt es n .waiter .0) Ready)
 
-pub post-wakes-at-the-first : RuledOut (λ k. fits-Events ⊗ fits-Family ⊗ fits-EcbNumber ⊗ fits-u32 ⊗ fits-end) post.Pre post.Post
+pub post-wakes-at-the-first :
+    RuledOut (λ k. fits-Events ⊗ fits-Family ⊗ fits-EcbNumber ⊗ fits-u32 ⊗ fits-end) post.Pre post.Post
     (λ k a. signalsOf (wakes (a .1 .0 .places) (a .0 .ecbs) (a .1 .1 .0 .0) (a .1 .1 .1 .0)))
 unfolding tables-open
 post-wakes-at-the-first =
@@ -142,11 +144,13 @@ bitsStay ts es n code = record {
   ecbs = pick (ecbAt es n .complete) es (set es n (completed code));
 }
 
-pub post-other-bits-stay-on : RuledOut (λ k. fits-Events ⊗ fits-Family ⊗ fits-EcbNumber ⊗ fits-u32 ⊗ fits-end) post.Pre post.Post
+pub post-other-bits-stay-on :
+    RuledOut (λ k. fits-Events ⊗ fits-Family ⊗ fits-EcbNumber ⊗ fits-u32 ⊗ fits-end) post.Pre post.Post
     (λ k a. signalsOf (bitsStay (a .1 .0 .places) (a .0 .ecbs) (a .1 .1 .0 .0) (a .1 .1 .1 .0)))
 unfolding tables-open
 post-other-bits-stay-on =
-    wrong-at tt (twoAwaited, (twoWaits 1, (ecb 0, (9, tt)))) refl (omega arith) (λ s. waitBit (ecbAt (s .events .ecbs) 1)) refl refl
+    wrong-at tt (twoAwaited, (twoWaits 1, (ecb 0, (9, tt)))) refl (omega arith)
+    (λ s. waitBit (ecbAt (s .events .ecbs) 1)) refl refl
 
 -- the bit of a task that has ended stays while it is not detached
 pub sweep-not-the-ended : RuledOut (λ k. fits-Events ⊗ fits-Family ⊗ fits-end) sweep.Pre sweep.Post
@@ -177,7 +181,8 @@ abbrev waitFor : ℕ → Events × (Family × (TaskNumber × (EcbList × (ℕ ×
 waitFor n = (oneComplete, (two, (task 2, (ecbsOf (0 ∷ 1 ∷ 2 ∷ []), (n, tt)))))
 
 -- it waits for as many posts as the count says, 2, and not for the one that is missing
-pub waited-for-the-whole-count : RuledOut (λ k. fits-Events ⊗ fits-Family ⊗ fits-TaskNumber ⊗ fits-EcbList ⊗ fits-u32 ⊗ fits-end) waited.Pre waited.Post
+pub waited-for-the-whole-count :
+    RuledOut (λ k. fits-Events ⊗ fits-Family ⊗ fits-TaskNumber ⊗ fits-EcbList ⊗ fits-u32 ⊗ fits-end) waited.Pre waited.Post
     (λ k a. waitedBy (λ c n. leb n c) (λ c n. n)
     (a .0) (a .1 .0) (a .1 .1 .0 .0) (ecbsIn (a .1 .1 .1 .0)) (a .1 .1 .1 .1 .0))
 unfolding tables-open
@@ -186,12 +191,14 @@ waited-for-the-whole-count =
     (λ r. sameCondition (conditionOf (r .tables .family .places) 2) (EcbWait 2)) refl refl
 
 -- one complete ECB is enough: it goes on, with a count of 2
-pub waited-goes-on-with-too-few : RuledOut (λ k. fits-Events ⊗ fits-Family ⊗ fits-TaskNumber ⊗ fits-EcbList ⊗ fits-u32 ⊗ fits-end) waited.Pre waited.Post
+pub waited-goes-on-with-too-few :
+    RuledOut (λ k. fits-Events ⊗ fits-Family ⊗ fits-TaskNumber ⊗ fits-EcbList ⊗ fits-u32 ⊗ fits-end) waited.Pre waited.Post
     (λ k a. waitedBy (λ c n. leb n c || leb 1 c) (λ c n. n - c)
     (a .0) (a .1 .0) (a .1 .1 .0 .0) (ecbsIn (a .1 .1 .1 .0)) (a .1 .1 .1 .1 .0))
 unfolding tables-open
 waited-goes-on-with-too-few =
-    wrong-at tt (waitFor 2) refl (omega arith, omega arith) (λ r. isReady (conditionOf (r .tables .family .places) 2)) refl refl
+    wrong-at tt (waitFor 2) refl (omega arith, omega arith) (λ r. isReady (conditionOf (r .tables .family .places) 2))
+    refl refl
 
 -- the wait bits are set although it goes on: with a count of 1, ECB 1 is waited on
 abbrev bitsAnyway : Events → Family → ℕ → Ecbs → ℕ → Signalled
@@ -200,25 +207,29 @@ bitsAnyway e f w l n =
     (record { tasks = waitedIn (f .places) (e .ecbs) w l n .tasks; ecbs = mapAt (waitSet w l) 0 (e .ecbs) })
     e f
 
-pub waited-bits-without-a-wait : RuledOut (λ k. fits-Events ⊗ fits-Family ⊗ fits-TaskNumber ⊗ fits-EcbList ⊗ fits-u32 ⊗ fits-end) waited.Pre waited.Post
+pub waited-bits-without-a-wait :
+    RuledOut (λ k. fits-Events ⊗ fits-Family ⊗ fits-TaskNumber ⊗ fits-EcbList ⊗ fits-u32 ⊗ fits-end) waited.Pre waited.Post
     (λ k a. bitsAnyway (a .0) (a .1 .0) (a .1 .1 .0 .0) (ecbsIn (a .1 .1 .1 .0)) (a .1 .1 .1 .1 .0))
 unfolding tables-open
 waited-bits-without-a-wait =
     wrong-at tt (waitFor 1) refl (omega arith, omega arith) (λ r. waitBit (ecbAt (r .tables .events .ecbs) 1)) refl refl
 
 -- only the ECB's number is tested: code 1,073,741,824 goes through
-pub posted-any-code : RuledOut (λ k. fits-Events ⊗ fits-Family ⊗ fits-EcbNumber ⊗ fits-u32 ⊗ fits-end) posted.Pre posted.Post
+pub posted-any-code :
+    RuledOut (λ k. fits-Events ⊗ fits-Family ⊗ fits-EcbNumber ⊗ fits-u32 ⊗ fits-end) posted.Pre posted.Post
     (λ k a. signalledBy (pick (ecbGood (a .1 .1 .0 .0)) Go (Refuse OutOfRange))
     (signalled (a .1 .0 .places) (a .0 .ecbs) (a .1 .1 .0 .0) (a .1 .1 .1 .0)) (a .0) (a .1 .0))
 unfolding tables-open
 posted-any-code =
-    wrong-at tt (events [], (two, (ecb 0, (0x4000_0000, tt)))) refl tt (λ r. eqb (verdictNumber (r .verdict)) 0) refl refl
+    wrong-at tt (events [], (two, (ecb 0, (0x4000_0000, tt)))) refl tt (λ r. eqb (verdictNumber (r .verdict)) 0) refl
+    refl
 
 -- the waiter is not looked at: ECB 0 is complete, and 2 still waits for it
 abbrev nobodyWakes : List Task → List Ecb → ℕ → ℕ → Signals
 nobodyWakes ts es n code = record { tasks = ts; ecbs = signalled ts es n code .ecbs }
 
-pub posted-nobody-wakes : RuledOut (λ k. fits-Events ⊗ fits-Family ⊗ fits-EcbNumber ⊗ fits-u32 ⊗ fits-end) posted.Pre posted.Post
+pub posted-nobody-wakes :
+    RuledOut (λ k. fits-Events ⊗ fits-Family ⊗ fits-EcbNumber ⊗ fits-u32 ⊗ fits-end) posted.Pre posted.Post
     (λ k a. signalledBy (postVerdict (a .1 .1 .0) (a .1 .1 .1 .0))
     (nobodyWakes (a .1 .0 .places) (a .0 .ecbs) (a .1 .1 .0 .0) (a .1 .1 .1 .0)) (a .0) (a .1 .0))
 unfolding tables-open
@@ -241,9 +252,11 @@ codeStays ts es n = record {
   ecbs = set es n (record { waiter = task 0; complete = false; code = ecbAt es n .code });
 }
 
-pub cleared-but-its-code : RuledOut (λ k. fits-Events ⊗ fits-Family ⊗ fits-EcbNumber ⊗ fits-end) cleared.Pre cleared.Post
+pub cleared-but-its-code :
+    RuledOut (λ k. fits-Events ⊗ fits-Family ⊗ fits-EcbNumber ⊗ fits-end) cleared.Pre cleared.Post
     (λ k a. signalledBy (clearVerdict (a .0 .ecbs) (a .1 .1 .0))
     (codeStays (a .1 .0 .places) (a .0 .ecbs) (a .1 .1 .0 .0)) (a .0) (a .1 .0))
 unfolding tables-open
 cleared-but-its-code =
-    wrong-at tt (oneComplete, (two, (ecb 0, tt))) refl tt (λ r. eqb (ecbAt (r .tables .events .ecbs) 0 .code) 7) refl refl
+    wrong-at tt (oneComplete, (two, (ecb 0, tt))) refl tt (λ r. eqb (ecbAt (r .tables .events .ecbs) 0 .code) 7) refl
+    refl

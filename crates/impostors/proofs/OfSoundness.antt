@@ -14,7 +14,6 @@ use Rattle.kinds.specs.declared.tasks.Condition.{Condition}
 use Rattle.kinds.specs.declared.tasks.Condition.the-variants.{Free, Ready, EcbWait, Ended}
 use Rattle.kinds.specs.declared.tasks.MaybeEcb.{MaybeEcb}
 use Rattle.kinds.specs.declared.tasks.MaybeEcb.the-variants.{NoEcb, Named}
-use Rattle.kinds.specs.declared.requests.Ret.the-variants.{None}
 use Rattle.rules.specs.Control.{Entry}
 use Rattle.rules.specs.Steps.{Step, withTasks, withQueue, withEcbs, withAreas, overStep}
 use Rattle.rules.specs.Family.{withPlace}
@@ -39,7 +38,7 @@ use Rattle.soundness.proofs.sound.Reads as sound
 use Rattle.impostors.specs.Fitting.{_⊗_, fits-Events, fits-Family, fits-Queue, fits-Storage, fits-bool, fits-end, fits-u16}
 use Rattle.impostors.specs.Opened.{tables-open}
 use Rattle.impostors.specs.Wrong.{RuledOut, wrong-at}
-use Rattle.impostors.specs.Samples.{task, ecb, daughter, enq, after}
+use Rattle.impostors.specs.Samples.{task, ecb, after, oneDaughter, awaited}
 
 -- what `sound` is given, that it fits its types, and the step in it
 abbrev Given : Type 0
@@ -123,10 +122,10 @@ whenOver n s = pick (s .over) (allBut n (overRules s)) (allBut 18 (rules s))
 
 -- STEPS: 2 is a daughter of task 1; then both ask for x, and 2 waits
 abbrev two : Step
-two = after start (daughter 1 ∷ [])
+two = after start oneDaughter
 
 abbrev held : Step
-held = after start (daughter 1 ∷ enq 1 None 0 (exc x ∷ []) ∷ enq 2 None 0 (exc x ∷ []) ∷ [])
+held = after start awaited
 
 -- with another place of task n, another ECB, entries, areas
 abbrev row : Step → ℕ → Condition → ℕ → ℕ → ℕ → MaybeEcb → Step
@@ -154,7 +153,8 @@ leftOver = record { areas = storedAreas (area 0 8 5 1 ∷ []) .areas; count = 0 
 -- task 1 may have an ECB
 pub sound-with-an-ecb-of-task-1 : RuledOut takes sound.Pre sound.Post (λ k a. judged (whileRunning 1) a)
 unfolding tables-open
-sound-with-an-ecb-of-task-1 = wrong-at tt (given (row start 1 Ready 0 200 150 (Named (ecb 0)))) refl tt (λ b. b) refl refl
+sound-with-an-ecb-of-task-1 =
+    wrong-at tt (given (row start 1 Ready 0 200 150 (Named (ecb 0)))) refl tt (λ b. b) refl refl
 
 -- a mother need not be live: task 9 is 2's
 pub sound-with-a-mother-not-live : RuledOut takes sound.Pre sound.Post (λ k a. judged (whileRunning 2) a)
@@ -197,7 +197,8 @@ sound-with-two-entries-for-a-name =
 -- a minor name may be empty
 pub sound-with-an-empty-name : RuledOut takes sound.Pre sound.Post (λ k a. judged (whileRunning 9) a)
 unfolding tables-open
-sound-with-an-empty-name = wrong-at tt (given (entries two (entryFor 1 (exc (named 88 [])) ∷ []))) refl tt (λ b. b) refl refl
+sound-with-an-empty-name =
+    wrong-at tt (given (entries two (entryFor 1 (exc (named 88 [])) ∷ []))) refl tt (λ b. b) refl refl
 
 -- 2, whose entry lacks control, may be ready
 pub sound-with-a-ready-task-that-lacks-control : RuledOut takes sound.Pre sound.Post (λ k a. judged (whileRunning 10) a)
@@ -268,14 +269,14 @@ pub sound-with-a-code-while-it-runs : RuledOut takes sound.Pre sound.Post (λ k 
 unfolding tables-open
 sound-with-a-code-while-it-runs = wrong-at tt (given (coded two 1)) refl tt (λ b. b) refl refl
 
--- an unused place of the queue need not be zero
+-- whether the queue is packed is not tested: an unused place is not zero
 pub sound-with-an-unused-entry-not-zero :
     RuledOut takes sound.Pre sound.Post
     (λ k a. soundIn (withTables (stepIn a) (stored (live (a .1 .1 .1 .0))) (a .1 .1 .1 .1 .1 .0)))
 unfolding tables-open
 sound-with-an-unused-entry-not-zero = wrong-at tt (withTables two uncounted (storedAreas [])) refl tt (λ b. b) refl refl
 
--- an unused place of the area table need not be zero
+-- whether the area table is packed is not tested: an unused place is not zero
 pub sound-with-an-unused-area-not-zero :
     RuledOut takes sound.Pre sound.Post
     (λ k a. soundIn (withTables (stepIn a) (a .1 .1 .1 .0) (storedAreas (liveAreas (a .1 .1 .1 .1 .1 .0)))))
@@ -297,7 +298,8 @@ sound-over-with-a-task = wrong-at tt (given (withTasks (overStep 7) (start .task
 -- an entry may be left
 pub sound-over-with-an-entry : RuledOut takes sound.Pre sound.Post (λ k a. judged (whenOver 2) a)
 unfolding tables-open
-sound-over-with-an-entry = wrong-at tt (given (entries (overStep 7) (entryFor 1 (exc x) ∷ []))) refl tt (λ b. b) refl refl
+sound-over-with-an-entry =
+    wrong-at tt (given (entries (overStep 7) (entryFor 1 (exc x) ∷ []))) refl tt (λ b. b) refl refl
 
 -- an ECB may be left complete
 pub sound-over-with-an-ecb : RuledOut takes sound.Pre sound.Post (λ k a. judged (whenOver 3) a)
@@ -312,7 +314,8 @@ sound-over-with-an-area = wrong-at tt (given (withAreas (overStep 7) (area 0 8 0
 -- SOUND TABLES ARE REFUSED
 
 -- a step that is over is never sound
-pub sound-never-when-over : RuledOut takes sound.Pre sound.Post (λ k a. judged (λ s. not (s .over) && allBut 18 (rules s)) a)
+pub sound-never-when-over : RuledOut takes sound.Pre sound.Post
+    (λ k a. judged (λ s. not (s .over) && allBut 18 (rules s)) a)
 unfolding tables-open
 sound-never-when-over = wrong-at tt (given (overStep 7)) refl tt not refl refl
 

@@ -62,12 +62,14 @@ pub empty-one-counted : RuledOut (λ k. fits-end) empty.Pre empty.Post (λ k a. 
 empty-one-counted = wrong-at tt tt refl tt (λ s. eqb (s .count) 1) refl refl
 
 -- nothing is counted, but the places are not cleared
-pub empty-not-cleared : RuledOut (λ k. fits-end) empty.Pre empty.Post (λ k a. record { areas = replicate mostAreas one; count = 0 })
+pub empty-not-cleared : RuledOut (λ k. fits-end) empty.Pre empty.Post
+    (λ k a. record { areas = replicate mostAreas one; count = 0 })
 unfolding tables-open
 empty-not-cleared = wrong-at tt tt refl tt (λ s. sameArea (getD (s .areas) 0 noArea) one) refl refl
 
 -- an unused place may hold anything
-pub packed-whatever-is-unused : RuledOut (λ k. fits-Storage ⊗ fits-end) packed.Pre packed.Post (λ k a. leb (a .0 .count) mostAreas)
+pub packed-whatever-is-unused : RuledOut (λ k. fits-Storage ⊗ fits-end) packed.Pre packed.Post
+    (λ k a. leb (a .0 .count) mostAreas)
 unfolding tables-open
 packed-whatever-is-unused = wrong-at tt (among (stored []) (stored (one ∷ []) .areas), tt) refl tt (λ b. b) refl refl
 
@@ -79,27 +81,32 @@ unfolding tables-open
 packed-by-one-place = wrong-at tt (among (stored []) (stored (noArea ∷ one ∷ []) .areas), tt) refl tt (λ b. b) refl refl
 
 -- a full table does not pass
-pub packed-not-full : RuledOut (λ k. fits-Storage ⊗ fits-end) packed.Pre packed.Post (λ k a. ltb (a .0 .count) mostAreas && restZero (a .0))
+pub packed-not-full : RuledOut (λ k. fits-Storage ⊗ fits-end) packed.Pre packed.Post
+    (λ k a. ltb (a .0 .count) mostAreas && restZero (a .0))
 unfolding tables-open
 packed-not-full = wrong-at tt (stored (replicate mostAreas one), tt) refl tt not refl refl
 
 -- 128 are too many
-pub areas-fit-not-128 : RuledOut (λ k. fits-Storage ⊗ fits-end) areas-fit.Pre areas-fit.Post (λ k a. ltb (a .0 .count) mostAreas)
+pub areas-fit-not-128 : RuledOut (λ k. fits-Storage ⊗ fits-end) areas-fit.Pre areas-fit.Post
+    (λ k a. ltb (a .0 .count) mostAreas)
 unfolding tables-open
 areas-fit-not-128 = wrong-at tt (stored (replicate mostAreas one), tt) refl (omega arith) not refl refl
 
 -- as the count of a list, from 1 on: a storage with no area does not fit
-pub areas-fit-not-0 : RuledOut (λ k. fits-Storage ⊗ fits-end) areas-fit.Pre areas-fit.Post (λ k a. between 1 mostAreas (a .0 .count))
+pub areas-fit-not-0 : RuledOut (λ k. fits-Storage ⊗ fits-end) areas-fit.Pre areas-fit.Post
+    (λ k a. between 1 mostAreas (a .0 .count))
 unfolding tables-open
 areas-fit-not-0 = wrong-at tt (stored [], tt) refl (omega arith) not refl refl
 
 -- the first area is not looked at: it has no bytes
-pub shapes-good-but-the-first : RuledOut (λ k. fits-Storage ⊗ fits-end) shapes-good.Pre shapes-good.Post (λ k a. areaShapesGood (drop 1 (live (a .0))))
+pub shapes-good-but-the-first : RuledOut (λ k. fits-Storage ⊗ fits-end) shapes-good.Pre shapes-good.Post
+    (λ k a. areaShapesGood (drop 1 (live (a .0))))
 unfolding tables-open
 shapes-good-but-the-first = wrong-at tt (stored (area 0 0 5 1 ∷ two ∷ []), tt) refl (omega arith) (λ b. b) refl refl
 
 -- unused places are looked at too, and have no bytes
-pub shapes-good-of-unused-places : RuledOut (λ k. fits-Storage ⊗ fits-end) shapes-good.Pre shapes-good.Post (λ k a. areaShapesGood (a .0 .areas))
+pub shapes-good-of-unused-places : RuledOut (λ k. fits-Storage ⊗ fits-end) shapes-good.Pre shapes-good.Post
+    (λ k a. areaShapesGood (a .0 .areas))
 unfolding tables-open
 shapes-good-of-unused-places = wrong-at tt (stored (one ∷ []), tt) refl (omega arith) not refl refl
 
@@ -111,28 +118,33 @@ unfolding tables-open
 areas-rise-or-are-level = wrong-at tt (stored (one ∷ long ∷ []), tt) refl (omega arith) (λ b. b) refl refl
 
 -- the first area is not looked at: it stands above the second
-pub areas-rise-but-the-first : RuledOut (λ k. fits-Storage ⊗ fits-end) areas-rise.Pre areas-rise.Post (λ k a. areasRise (drop 1 (live (a .0))))
+pub areas-rise-but-the-first : RuledOut (λ k. fits-Storage ⊗ fits-end) areas-rise.Pre areas-rise.Post
+    (λ k a. areasRise (drop 1 (live (a .0))))
 unfolding tables-open
 areas-rise-but-the-first = wrong-at tt (stored (two ∷ one ∷ three ∷ []), tt) refl (omega arith) (λ b. b) refl refl
 
 -- only bytes are judged: tasks 1 and 2 on one page
-pub areas-apart-on-one-page : RuledOut (λ k. fits-Storage ⊗ fits-end) areas-apart.Pre areas-apart.Post (λ k a. pairwise bytesApart (live (a .0)))
+pub areas-apart-on-one-page : RuledOut (λ k. fits-Storage ⊗ fits-end) areas-apart.Pre areas-apart.Post
+    (λ k a. pairwise bytesApart (live (a .0)))
 unfolding tables-open
 areas-apart-on-one-page = wrong-at tt (stored (one ∷ area 8 8 5 2 ∷ []), tt) refl (omega arith) (λ b. b) refl refl
 
 -- an area is compared with itself too, and meets itself
 pub areas-apart-from-themselves :
-    RuledOut (λ k. fits-Storage ⊗ fits-end) areas-apart.Pre areas-apart.Post (λ k a. every (λ (x : Area). every (apart x) (live (a .0))) (live (a .0)))
+    RuledOut (λ k. fits-Storage ⊗ fits-end) areas-apart.Pre areas-apart.Post
+    (λ k a. every (λ (x : Area). every (apart x) (live (a .0))) (live (a .0)))
 unfolding tables-open
 areas-apart-from-themselves = wrong-at tt (stored (one ∷ []), tt) refl (omega arith) not refl refl
 
 -- the first area is not looked at: it meets the second
-pub areas-apart-but-the-first : RuledOut (λ k. fits-Storage ⊗ fits-end) areas-apart.Pre areas-apart.Post (λ k a. areasApart (drop 1 (live (a .0))))
+pub areas-apart-but-the-first : RuledOut (λ k. fits-Storage ⊗ fits-end) areas-apart.Pre areas-apart.Post
+    (λ k a. areasApart (drop 1 (live (a .0))))
 unfolding tables-open
 areas-apart-but-the-first = wrong-at tt (stored (long ∷ two ∷ []), tt) refl (omega arith) (λ b. b) refl refl
 
 -- it goes behind all others, and one at 0 behind one at 8
-pub insert-at-the-end : RuledOut (λ k. fits-Storage ⊗ fits-Area ⊗ fits-end) insert.Pre insert.Post (λ k a. stored (live (a .0) ++ (a .1 .0 ∷ [])))
+pub insert-at-the-end : RuledOut (λ k. fits-Storage ⊗ fits-Area ⊗ fits-end) insert.Pre insert.Post
+    (λ k a. stored (live (a .0) ++ (a .1 .0 ∷ [])))
 unfolding tables-open
 insert-at-the-end =
     wrong-at tt (stored (two ∷ []), (one, tt)) refl (packed-one two, omega arith) (holds (two ∷ one ∷ [])) refl refl
@@ -148,7 +160,8 @@ insert-before-an-equal =
 
 -- it is put in and not counted
 pub insert-not-counted :
-    RuledOut (λ k. fits-Storage ⊗ fits-Area ⊗ fits-end) insert.Pre insert.Post (λ k a. among (a .0) (stored (insertedIn (a .1 .0) (live (a .0))) .areas))
+    RuledOut (λ k. fits-Storage ⊗ fits-Area ⊗ fits-end) insert.Pre insert.Post
+    (λ k a. among (a .0) (stored (insertedIn (a .1 .0) (live (a .0))) .areas))
 unfolding tables-open
 insert-not-counted =
     wrong-at tt (stored (one ∷ []), (two, tt)) refl (packed-one one, omega arith) (λ s. eqb (s .count) 1) refl refl
@@ -159,24 +172,28 @@ alikeButOwners x y = eqb (startOf x) (startOf y) && (eqb (x .size) (y .size) && 
 
 -- whoever owns it: task 2 has the area that is looked for
 pub has-area-of-another-task :
-    RuledOut (λ k. fits-Storage ⊗ fits-Area ⊗ fits-end) has-area.Pre has-area.Post (λ k a. some (alikeButOwners (a .1 .0)) (live (a .0)))
+    RuledOut (λ k. fits-Storage ⊗ fits-Area ⊗ fits-end) has-area.Pre has-area.Post
+    (λ k a. some (alikeButOwners (a .1 .0)) (live (a .0)))
 unfolding tables-open
 has-area-of-another-task = wrong-at tt (stored (area 0 8 5 2 ∷ []), (one, tt)) refl (omega arith) (λ b. b) refl refl
 
 -- unused places are looked at too: an area of zeros is found in a storage with none
-pub has-area-in-unused-places : RuledOut (λ k. fits-Storage ⊗ fits-Area ⊗ fits-end) has-area.Pre has-area.Post (λ k a. some (sameArea (a .1 .0)) (a .0 .areas))
+pub has-area-in-unused-places : RuledOut (λ k. fits-Storage ⊗ fits-Area ⊗ fits-end) has-area.Pre has-area.Post
+    (λ k a. some (sameArea (a .1 .0)) (a .0 .areas))
 unfolding tables-open
 has-area-in-unused-places = wrong-at tt (stored [], (noArea, tt)) refl (omega arith) (λ b. b) refl refl
 
 -- only the first area is looked at
 pub has-area-by-the-first-alone :
-    RuledOut (λ k. fits-Storage ⊗ fits-Area ⊗ fits-end) has-area.Pre has-area.Post (λ k a. some (sameArea (a .1 .0)) (take 1 (live (a .0))))
+    RuledOut (λ k. fits-Storage ⊗ fits-Area ⊗ fits-end) has-area.Pre has-area.Post
+    (λ k a. some (sameArea (a .1 .0)) (take 1 (live (a .0))))
 unfolding tables-open
 has-area-by-the-first-alone = wrong-at tt (stored (one ∷ two ∷ []), (two, tt)) refl (omega arith) not refl refl
 
 -- all areas of its owner in its subpool go
 pub without-all-of-its-owner :
-    RuledOut (λ k. fits-Storage ⊗ fits-Area ⊗ fits-end) without.Pre without.Post (λ k a. stored (keep (λ (b : Area). not (oneHolder (a .1 .0) b)) (live (a .0))))
+    RuledOut (λ k. fits-Storage ⊗ fits-Area ⊗ fits-end) without.Pre without.Post
+    (λ k a. stored (keep (λ (b : Area). not (oneHolder (a .1 .0) b)) (live (a .0))))
 unfolding tables-open
 without-all-of-its-owner =
     wrong-at tt (stored (one ∷ two ∷ []), (one, tt)) refl (packed-two one two) (λ s. eqb (s .count) 0) refl refl
@@ -190,6 +207,8 @@ without-closing-the-gap =
     wrong-at tt (stored (one ∷ two ∷ []), (one, tt)) refl (packed-two one two) (holds (noArea ∷ two ∷ [])) refl refl
 
 -- the area stays and the others go
-pub without-the-others : RuledOut (λ k. fits-Storage ⊗ fits-Area ⊗ fits-end) without.Pre without.Post (λ k a. stored (keep (sameArea (a .1 .0)) (live (a .0))))
+pub without-the-others : RuledOut (λ k. fits-Storage ⊗ fits-Area ⊗ fits-end) without.Pre without.Post
+    (λ k a. stored (keep (sameArea (a .1 .0)) (live (a .0))))
 unfolding tables-open
-without-the-others = wrong-at tt (stored (one ∷ two ∷ []), (one, tt)) refl (packed-two one two) (holds (one ∷ [])) refl refl
+without-the-others =
+    wrong-at tt (stored (one ∷ two ∷ []), (one, tt)) refl (packed-two one two) (holds (one ∷ [])) refl refl

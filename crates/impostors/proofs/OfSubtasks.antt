@@ -1,7 +1,7 @@
 -- Wrong answers that the contracts of `subtasks` rule out. Assumes nothing.
 use Prim.Native.Nat.{ℕ}
 use mathlib.Core.Path.{refl}
-use mathlib.Core.Bool.{Bool, not, _&&_}
+use mathlib.Core.Bool.{Bool, not, _&&_, _||_}
 use mathlib.Core.List.{List, [], _∷_, map}
 use lib.Dec.{eqb}
 use lib.IntN.{ℤ, pos}
@@ -10,7 +10,6 @@ use Rattle.lists.specs.Lists.{some, mapAt, numbers}
 use Rattle.kinds.specs.Limits.{highestTask}
 use Rattle.kinds.specs.Ranges.{endCodeGood, taskGood}
 use Rattle.kinds.specs.Tasks.{noTask, isFree, isLive}
-use Rattle.kinds.specs.Replies.{refusalNumber, faultNumber}
 use Rattle.kinds.specs.declared.numbers.TaskNumber.{TaskNumber}
 use Rattle.kinds.specs.declared.tasks.Task.{Task}
 use Rattle.kinds.specs.declared.tasks.MaybeEcb.{MaybeEcb}
@@ -35,13 +34,7 @@ use Rattle.impostors.specs.Fitting.{_⊗_, fits-Family, fits-MaybeEcb, f
 use Rattle.impostors.specs.Opened.{tables-open}
 use Rattle.impostors.specs.Wrong.{RuledOut, wrong-at, Heeds, heeds}
 use Rattle.impostors.specs.Samples.{task}
-use Rattle.impostors.proofs.OfFamily.{family, first, ready, ended}
-
--- the number that a verdict stands for, 0 where it is to go on
-abbrev pub verdictNumber : Verdict → ℕ
-verdictNumber Go = 0
-verdictNumber (Refuse why) = refusalNumber why
-verdictNumber (Fail what) = faultNumber what
+use Rattle.impostors.specs.Parts.{verdictNumber, family, first, ready, ended}
 
 -- 2 is task 1's daughter, 3 is 2's, 4 is 3's
 abbrev four : Family
@@ -68,12 +61,14 @@ abbrev atHerLimit : Family → TaskNumber → ℕ → ℤ → MaybeEcb → Attac
 atHerLimit f c lpmod dpmod ecb = attachedBy (attachVerdict (f .places) lpmod dpmod ecb) f c 0 dpmod ecb
 
 pub attach-at-her-limit :
-    RuledOut (λ k. fits-Family ⊗ fits-TaskNumber ⊗ fits-u16 ⊗ fits-i16 ⊗ fits-MaybeEcb ⊗ fits-end) attach.Pre attach.Post (λ k a. atHerLimit (a .0) (a .1 .0) (a .1 .1 .0) (a .1 .1 .1 .0) (a .1 .1 .1 .1 .0))
+    RuledOut (λ k. fits-Family ⊗ fits-TaskNumber ⊗ fits-u16 ⊗ fits-i16 ⊗ fits-MaybeEcb ⊗ fits-end) attach.Pre attach.Post
+    (λ k a. atHerLimit (a .0) (a .1 .0) (a .1 .1 .0) (a .1 .1 .1 .0) (a .1 .1 .1 .1 .0))
 unfolding tables-open
 attach-at-her-limit = wrong-at tt (asks 40) refl tt (priorities 2 200 190) refl refl
 
 -- DPMOD counts for nothing: no answer fits DPMOD 40 and DPMOD 0
-pub attach-heeds-dpmod : Heeds (λ k. fits-Family ⊗ fits-TaskNumber ⊗ fits-u16 ⊗ fits-i16 ⊗ fits-MaybeEcb ⊗ fits-end) attach.Pre attach.Post
+pub attach-heeds-dpmod :
+    Heeds (λ k. fits-Family ⊗ fits-TaskNumber ⊗ fits-u16 ⊗ fits-i16 ⊗ fits-MaybeEcb ⊗ fits-end) attach.Pre attach.Post
 unfolding tables-open
 attach-heeds-dpmod = heeds tt (asks 40) (asks 0) refl refl tt tt (priorities 2 170 170) refl refl
 
@@ -85,17 +80,21 @@ fullFirst f c lpmod dpmod ecb =
     f c lpmod dpmod ecb
 
 pub attach-106-before-101 :
-    RuledOut (λ k. fits-Family ⊗ fits-TaskNumber ⊗ fits-u16 ⊗ fits-i16 ⊗ fits-MaybeEcb ⊗ fits-end) attach.Pre attach.Post (λ k a. fullFirst (a .0) (a .1 .0) (a .1 .1 .0) (a .1 .1 .1 .0) (a .1 .1 .1 .1 .0))
+    RuledOut (λ k. fits-Family ⊗ fits-TaskNumber ⊗ fits-u16 ⊗ fits-i16 ⊗ fits-MaybeEcb ⊗ fits-end) attach.Pre attach.Post
+    (λ k a. fullFirst (a .0) (a .1 .0) (a .1 .1 .0) (a .1 .1 .1 .0) (a .1 .1 .1 .1 .0))
 unfolding tables-open
 attach-106-before-101 =
-    wrong-at tt (full, (task 1, (256, (pos 0, (NoEcb, tt))))) refl tt (λ r. eqb (verdictNumber (r .verdict)) 106) refl refl
+    wrong-at tt (full, (task 1, (256, (pos 0, (NoEcb, tt))))) refl tt (λ r. eqb (verdictNumber (r .verdict)) 106) refl
+    refl
 
 -- only the daughters of the task that ends go with it: 2 ends, and 4 stays
 abbrev onlyDaughters : List Task → ℕ → Task → List Task
-onlyDaughters ts c last = mapAt (λ n x. pick (eqb n c) last (pick (directSubtask ts c n) noTask x)) 1 ts
+onlyDaughters ts c last =
+    mapAt (λ n x. pick (below ts c n && (eqb n c || directSubtask ts c n)) (pick (eqb n c) last noTask) x) 1 ts
 
 pub end-tasks-only-daughters :
-    RuledOut (λ k. fits-Family ⊗ fits-TaskNumber ⊗ fits-Task ⊗ fits-end) end-tasks.Pre end-tasks.Post (λ k a. familyOf (onlyDaughters (a .0 .places) (a .1 .0 .0) (a .1 .1 .0)))
+    RuledOut (λ k. fits-Family ⊗ fits-TaskNumber ⊗ fits-Task ⊗ fits-end) end-tasks.Pre end-tasks.Post
+    (λ k a. familyOf (onlyDaughters (a .0 .places) (a .1 .0 .0) (a .1 .1 .0)))
 unfolding tables-open
 end-tasks-only-daughters = wrong-at tt (four, (task 2, (noTask, tt))) refl tt (λ f. live (f .places) 4) refl refl
 
@@ -104,23 +103,27 @@ abbrev onlyLive : List Task → ℕ → Task → List Task
 onlyLive ts c last = mapAt (λ n x. pick (below ts c n && isLive (x .condition)) (pick (eqb n c) last noTask) x) 1 ts
 
 pub end-tasks-only-the-live :
-    RuledOut (λ k. fits-Family ⊗ fits-TaskNumber ⊗ fits-Task ⊗ fits-end) end-tasks.Pre end-tasks.Post (λ k a. familyOf (onlyLive (a .0 .places) (a .1 .0 .0) (a .1 .1 .0)))
+    RuledOut (λ k. fits-Family ⊗ fits-TaskNumber ⊗ fits-Task ⊗ fits-end) end-tasks.Pre end-tasks.Post
+    (λ k a. familyOf (onlyLive (a .0 .places) (a .1 .0 .0) (a .1 .1 .0)))
 unfolding tables-open
 end-tasks-only-the-live =
     wrong-at tt (oneEnded, (task 2, (noTask, tt))) refl tt (λ f. not (isFree (conditionOf (f .places) 3))) refl refl
 
--- its own place is freed, and not kept as ended
+-- its own place is free, whatever is given: that of 2, which is to be kept as ended
 pub end-tasks-nothing-kept :
-    RuledOut (λ k. fits-Family ⊗ fits-TaskNumber ⊗ fits-Task ⊗ fits-end) end-tasks.Pre end-tasks.Post (λ k a. familyOf (endTasks (a .0 .places) (a .1 .0 .0) noTask))
+    RuledOut (λ k. fits-Family ⊗ fits-TaskNumber ⊗ fits-Task ⊗ fits-end) end-tasks.Pre end-tasks.Post
+    (λ k a. familyOf (endTasks (a .0 .places) (a .1 .0 .0) noTask))
 unfolding tables-open
-end-tasks-nothing-kept = wrong-at tt (four, (task 2, (ended 1, tt))) refl tt (λ f. isFree (conditionOf (f .places) 2)) refl refl
+end-tasks-nothing-kept =
+    wrong-at tt (four, (task 2, (ended 1, tt))) refl tt (λ f. isFree (conditionOf (f .places) 2)) refl refl
 
 -- 207 before 101: code 4,096, and 2 has a subtask
 abbrev subtasksFirst : List Task → TaskNumber → ℕ → Verdict
 subtasksFirst ts c code = pick (hasSubtasks ts (c .0)) (Fail HasSubtasks) (endVerdict ts c code)
 
 pub end-verdict-207-before-101 :
-    RuledOut (λ k. fits-Family ⊗ fits-TaskNumber ⊗ fits-u16 ⊗ fits-end) end-verdict.Pre end-verdict.Post (λ k a. subtasksFirst (a .0 .places) (a .1 .0) (a .1 .1 .0))
+    RuledOut (λ k. fits-Family ⊗ fits-TaskNumber ⊗ fits-u16 ⊗ fits-end) end-verdict.Pre end-verdict.Post
+    (λ k a. subtasksFirst (a .0 .places) (a .1 .0) (a .1 .1 .0))
 unfolding tables-open
 end-verdict-207-before-101 = wrong-at tt (four, (task 2, (4096, tt))) refl tt (λ v. eqb (verdictNumber v) 207) refl refl
 
@@ -132,17 +135,20 @@ endOverLive ts c code =
     (Refuse OutOfRange)
 
 pub end-verdict-only-live-subtasks :
-    RuledOut (λ k. fits-Family ⊗ fits-TaskNumber ⊗ fits-u16 ⊗ fits-end) end-verdict.Pre end-verdict.Post (λ k a. endOverLive (a .0 .places) (a .1 .0 .0) (a .1 .1 .0))
+    RuledOut (λ k. fits-Family ⊗ fits-TaskNumber ⊗ fits-u16 ⊗ fits-end) end-verdict.Pre end-verdict.Post
+    (λ k a. endOverLive (a .0 .places) (a .1 .0 .0) (a .1 .1 .0))
 unfolding tables-open
-end-verdict-only-live-subtasks = wrong-at tt (oneEnded, (task 2, (0, tt))) refl tt (λ v. eqb (verdictNumber v) 0) refl refl
+end-verdict-only-live-subtasks =
+    wrong-at tt (oneEnded, (task 2, (0, tt))) refl tt (λ v. eqb (verdictNumber v) 0) refl refl
 
 -- DETACH of task n, with another test of who may be detached
 abbrev detachIf : Bool → ℕ → Verdict
 detachIf may n = pick (taskGood n) (pick may Go (Fail NotSubtask)) (Refuse OutOfRange)
 
 -- every task below may be detached: 3, the daughter of a daughter, by task 1
-pub detach-verdict-all-below : RuledOut (λ k. fits-Family ⊗ fits-TaskNumber ⊗ fits-TaskNumber ⊗ fits-end) detach-verdict.Pre detach-verdict.Post
-    (λ k a. detachIf (below (a .0 .places) (a .1 .0 .0) (a .1 .1 .0 .0)) (a .1 .1 .0 .0))
+pub detach-verdict-all-below :
+    RuledOut (λ k. fits-Family ⊗ fits-TaskNumber ⊗ fits-TaskNumber ⊗ fits-end) detach-verdict.Pre detach-verdict.Post
+    (λ k a. detachIf (not (eqb (a .1 .1 .0 .0) (a .1 .0 .0)) && below (a .0 .places) (a .1 .0 .0) (a .1 .1 .0 .0)) (a .1 .1 .0 .0))
 unfolding tables-open
 detach-verdict-all-below = wrong-at tt (four, (task 1, (task 3, tt))) refl tt (λ v. eqb (verdictNumber v) 0) refl refl
 
@@ -150,7 +156,8 @@ detach-verdict-all-below = wrong-at tt (four, (task 1, (task 3, tt))) refl tt (�
 abbrev liveSubtask : List Task → ℕ → ℕ → Bool
 liveSubtask ts c n = live ts n && directSubtask ts c n
 
-pub detach-verdict-only-live-subtasks : RuledOut (λ k. fits-Family ⊗ fits-TaskNumber ⊗ fits-TaskNumber ⊗ fits-end) detach-verdict.Pre detach-verdict.Post
+pub detach-verdict-only-live-subtasks :
+    RuledOut (λ k. fits-Family ⊗ fits-TaskNumber ⊗ fits-TaskNumber ⊗ fits-end) detach-verdict.Pre detach-verdict.Post
     (λ k a. detachIf (liveSubtask (a .0 .places) (a .1 .0 .0) (a .1 .1 .0 .0)) (a .1 .1 .0 .0))
 unfolding tables-open
 detach-verdict-only-live-subtasks =

@@ -28,8 +28,7 @@ use Rattle.impostors.specs.Fitting.{_⊗_, fits-EcbList, fits-Events, fi
 use Rattle.impostors.specs.Opened.{tables-open}
 use Rattle.impostors.specs.Wrong.{RuledOut, wrong-at, told-apart}
 use Rattle.impostors.specs.Samples.{task, ecbsOf}
-use Rattle.impostors.proofs.OfSubtasks.{verdictNumber}
-use Rattle.impostors.proofs.OfEvents.{events, awaited}
+use Rattle.impostors.specs.Parts.{verdictNumber, events, awaited}
 
 -- ECBs 0 and 1 are complete
 abbrev twoComplete : Events
@@ -44,7 +43,8 @@ abbrev allPlaces : EcbList → Ecbs
 allPlaces l = record { count = longestList; ecbs = map (λ (e : EcbNumber). e .0) (l .ecbs) }
 
 -- every complete ECB is counted, listed or not: ECB 1 alone is listed, and there are two
-pub complete-of-all-ecbs : RuledOut (λ k. fits-Events ⊗ fits-EcbList ⊗ fits-end) complete-of.Pre complete-of.Post (λ k a. howMany (λ (x : Ecb). x .complete) (a .0 .ecbs))
+pub complete-of-all-ecbs : RuledOut (λ k. fits-Events ⊗ fits-EcbList ⊗ fits-end) complete-of.Pre complete-of.Post
+    (λ k a. howMany (λ (x : Ecb). x .complete) (a .0 .ecbs))
 unfolding tables-open
 complete-of-all-ecbs = record {
   lifetimes = tt;
@@ -55,7 +55,8 @@ complete-of-all-ecbs = record {
 }
 
 -- places past the count are counted: they hold ECB 0, 15 times
-pub complete-of-all-places : RuledOut (λ k. fits-Events ⊗ fits-EcbList ⊗ fits-end) complete-of.Pre complete-of.Post (λ k a. completeOf (a .0 .ecbs) (allPlaces (a .1 .0)))
+pub complete-of-all-places : RuledOut (λ k. fits-Events ⊗ fits-EcbList ⊗ fits-end) complete-of.Pre complete-of.Post
+    (λ k a. completeOf (a .0 .ecbs) (allPlaces (a .1 .0)))
 unfolding tables-open
 complete-of-all-places = record {
   lifetimes = tt;
@@ -77,7 +78,8 @@ waitedFirst es l n =
     (pick (ltb (length (l .ecbs)) n) (Fail CountTooLarge) Go))
     (Refuse OutOfRange)
 
-pub wait-verdict-203-before-204 : RuledOut (λ k. fits-Events ⊗ fits-EcbList ⊗ fits-u32 ⊗ fits-end) wait-verdict.Pre wait-verdict.Post
+pub wait-verdict-203-before-204 :
+    RuledOut (λ k. fits-Events ⊗ fits-EcbList ⊗ fits-u32 ⊗ fits-end) wait-verdict.Pre wait-verdict.Post
     (λ k a. waitedFirst (a .0 .ecbs) (ecbsIn (a .1 .0)) (a .1 .1 .0))
 unfolding tables-open
 wait-verdict-203-before-204 =
@@ -92,7 +94,8 @@ metFirst es l n =
     (pick (someWaited es l) (Fail AlreadyWaitedOn) Go)))
     (Refuse OutOfRange)
 
-pub wait-verdict-no-203-when-met : RuledOut (λ k. fits-Events ⊗ fits-EcbList ⊗ fits-u32 ⊗ fits-end) wait-verdict.Pre wait-verdict.Post
+pub wait-verdict-no-203-when-met :
+    RuledOut (λ k. fits-Events ⊗ fits-EcbList ⊗ fits-u32 ⊗ fits-end) wait-verdict.Pre wait-verdict.Post
     (λ k a. metFirst (a .0 .ecbs) (ecbsIn (a .1 .0)) (a .1 .1 .0))
 unfolding tables-open
 wait-verdict-no-203-when-met =
@@ -108,7 +111,8 @@ twiceGoes es l n =
     (Refuse OutOfRange))
     (Refuse OutOfRange)
 
-pub wait-verdict-twice-in-the-list : RuledOut (λ k. fits-Events ⊗ fits-EcbList ⊗ fits-u32 ⊗ fits-end) wait-verdict.Pre wait-verdict.Post
+pub wait-verdict-twice-in-the-list :
+    RuledOut (λ k. fits-Events ⊗ fits-EcbList ⊗ fits-u32 ⊗ fits-end) wait-verdict.Pre wait-verdict.Post
     (λ k a. twiceGoes (a .0 .ecbs) (ecbsIn (a .1 .0)) (a .1 .1 .0))
 unfolding tables-open
 wait-verdict-twice-in-the-list =
@@ -118,14 +122,16 @@ wait-verdict-twice-in-the-list =
 abbrev setInAll : ℕ → Ecbs → ℕ → Ecb → Ecb
 setInAll c l n x = pick (some (eqb n) (l .ecbs)) (withWaiter x c) x
 
-pub wait-set-in-a-complete-ecb : RuledOut (λ k. fits-Events ⊗ fits-TaskNumber ⊗ fits-EcbList ⊗ fits-end) wait-set.Pre wait-set.Post
+pub wait-set-in-a-complete-ecb :
+    RuledOut (λ k. fits-Events ⊗ fits-TaskNumber ⊗ fits-EcbList ⊗ fits-end) wait-set.Pre wait-set.Post
     (λ k a. eventsOf (mapAt (setInAll (a .1 .0 .0) (ecbsIn (a .1 .1 .0))) 0 (a .0 .ecbs)))
 unfolding tables-open
 wait-set-in-a-complete-ecb =
     wrong-at tt (twoComplete, (task 2, (ecbsOf (1 ∷ []), tt))) refl tt (λ e. waitBit (ecbAt (e .ecbs) 1)) refl refl
 
 -- places past the count are looked at: ECB 1 alone is listed, and ECB 0 is waited on
-pub wait-set-all-places : RuledOut (λ k. fits-Events ⊗ fits-TaskNumber ⊗ fits-EcbList ⊗ fits-end) wait-set.Pre wait-set.Post
+pub wait-set-all-places :
+    RuledOut (λ k. fits-Events ⊗ fits-TaskNumber ⊗ fits-EcbList ⊗ fits-end) wait-set.Pre wait-set.Post
     (λ k a. eventsOf (mapAt (waitSet (a .1 .0 .0) (allPlaces (a .1 .1 .0))) 0 (a .0 .ecbs)))
 unfolding tables-open
 wait-set-all-places =

@@ -1,6 +1,6 @@
--- THE TABLES ARE REAL: whatever requests are answered 0 from a sound step on, calls that keep the contract of `serve` lead to the tables of the step that
+-- THE TABLES ARE REAL: whatever requests are answered 0 from a sound step on, calls that keep the contract of `serve`
+-- lead to the tables of the step that
 -- they lead to. So a counterexample that starts from `after` is one that a caller can reach. Assumes nothing.
-use Prim.Native.Nat.{ℕ}
 use mathlib.Core.Path.{_≡_, refl, sym, ap, _∙_}
 use mathlib.Core.Bool.{true}
 use mathlib.Core.List.{List, [], _∷_}

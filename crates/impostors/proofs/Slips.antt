@@ -1,8 +1,9 @@
--- EACH SLIP IS CAUGHT by the case that we paid for: no service that makes it meets the contract of `serve`. Assumes nothing.
+-- EACH SLIP IS CAUGHT by the case that we paid for: no service that makes it meets the contract of `serve`. Assumes
+-- nothing.
 use Prim.Native.Nat.{ℕ}
 use mathlib.Core.Path.{_≡_, refl, ap}
 use mathlib.Core.Bool.{Bool, true, false, not}
-use mathlib.Core.List.{List, [], _∷_}
+use mathlib.Core.List.{[], _∷_}
 use lib.Dec.{eqb}
 use Rattle.kinds.specs.Tasks.{noTask, inResourceWait}
 use Rattle.kinds.specs.declared.requests.Request.the-variants.{Detach}
@@ -15,8 +16,8 @@ use Rattle.history.specs.Samples.{start, x}
 use Rattle.services.specs.declared.Tables.{Tables}
 use Rattle.impostors.specs.Opened.{tables-open}
 use Rattle.impostors.specs.Impostors.{Service, Caught, caught, on}
-use Rattle.impostors.specs.Slips.{joinsOwners, forgetsHeldBack, wakesAtFirstGrant, replacesCode, judgesFirstPage, reusesNothing}
-use Rattle.impostors.specs.Samples.{task, alone, deq, post, getmain, freemain, after, sharedByTwo, fifth, bothAsked, postedOnce, oneArea, midPage}
+use Rattle.impostors.specs.Slips.{SlipsCaught, joinsOwners, forgetsHeldBack, wakesAtFirstGrant, replacesCode, judgesFirstPage, reusesNothing}
+use Rattle.impostors.specs.Samples.{task, alone, deq, post, getmain, freemain, after, sharedByTwo, fifth, behindFour, bothAsked, postedOnce, oneArea, midPage}
 
 -- task n is in a resource wait
 abbrev waits : ℕ → Served Tables → Bool
@@ -36,7 +37,7 @@ joining-caught f = caught (joinsOwners f) (on shared-by-two fifth) refl (λ o. n
 
 -- CASE 4: then 4 is detached, and 5 owns x with 2 and 3
 abbrev behind-4 : Step
-behind-4 = after shared-by-two (fifth ∷ [])
+behind-4 = after start behindFour
 
 still-5 : inResourceWait (conditionOf (withPlace (behind-4 .tasks) 4 noTask) 5) ≡ true
 unfolding tables-open
@@ -55,7 +56,8 @@ first-grant-caught f = caught (wakesAtFirstGrant f) (on (after start bothAsked) 
 pub replacing-caught : (f : Service) → Caught (replacesCode f)
 unfolding tables-open
 replacing-caught f =
-    caught (replacesCode f) (on (after start postedOnce) (post 1 3 7)) refl (λ o. eqb (ecbAt (o .outcome .tables .events .ecbs) 3 .code) 7) refl refl
+    caught (replacesCode f) (on (after start postedOnce) (post 1 3 7)) refl
+    (λ o. eqb (ecbAt (o .outcome .tables .events .ecbs) 3 .code) 7) refl refl
 
 -- 5,000 bytes of subpool 10 at 0 would touch page 1, which holds an area of subpool 5: they are given 8192
 pub first-page-caught : (f : Service) → Caught (judgesFirstPage f)
@@ -66,4 +68,15 @@ first-page-caught f = caught (judgesFirstPage f) (on (after start midPage) (getm
 pub reusing-nothing-caught : (f : Service) → Caught (reusesNothing f)
 unfolding tables-open
 reusing-nothing-caught f =
-    caught (reusesNothing f) (on (after start oneArea) (freemain 1 0 100 10)) refl (λ o. not (eqb (o .outcome .tables .storage .count) 0)) refl refl
+    caught (reusesNothing f) (on (after start oneArea) (freemain 1 0 100 10)) refl
+    (λ o. not (eqb (o .outcome .tables .storage .count) 0)) refl refl
+
+pub slips-caught : SlipsCaught
+slips-caught = record {
+  joining = joining-caught;
+  held-back = held-back-caught;
+  first-grant = first-grant-caught;
+  replacing = replacing-caught;
+  first-page = first-page-caught;
+  reusing-nothing = reusing-nothing-caught;
+}

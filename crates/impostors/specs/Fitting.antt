@@ -1,5 +1,7 @@
--- WHAT FITS ITS TYPE: numbers within their widths, arrays of their lengths. A contract's lists and numbers may be any; a counterexample is one that
--- code can be given, so each is held to the types of its function's parameters, `fits-T` for the type T. Assumes nothing.
+-- WHAT FITS ITS TYPE: numbers within their widths, arrays of their lengths. A contract's lists and numbers may be any;
+-- a counterexample is one that
+-- code can be given, so each is held to the types of its function's parameters, `fits-T` for the type T. Assumes
+-- nothing.
 use Prim.Native.Nat.{ℕ}
 use mathlib.Core.Bool.{Bool, true, _&&_}
 use mathlib.Core.List.{List}

@@ -1,5 +1,6 @@
--- IMPOSTORS: whole services that look like ours and are not. Each is made from any other service, of which it keeps all but its vice, so
--- each stands for many. Assumes nothing.
+-- IMPOSTORS: whole services that look like ours and are not. The first is made from any choice of refusals, the others
+-- from
+-- any other service, of which they keep all but their vice; so each stands for many. Assumes nothing.
 use Prim.Native.Nat.{ℕ}
 use mathlib.Core.Path.{_≡_}
 use mathlib.Core.Bool.{Bool, true, false, _&&_}
@@ -40,7 +41,8 @@ pub record Back : Type 0 where
 abbrev pub Service : Type 0
 Service = Given → Back
 
--- a service keeps the contract of `serve` where this is given, wherever the codes area is lent from (its lifetime, its pointer, its ghost name)
+-- a service keeps the contract of `serve` where this is given, wherever the codes area is lent from (its lifetime, its
+-- pointer, its ghost name)
 abbrev pub Keeps : Service → Given → Type 0
 Keeps f g = (κ : List ℕ) (p : ℕ × ℕ) (γ : ℕ) → serve.Post (κ, tt) (lent p γ (g .asking .area)) (f g .answer) (lent p γ (f g .codes))
   where
@@ -81,7 +83,8 @@ caught f g t test h n = record { given = g; fitting = t; by = λ k. told-apart (
 abbrev pub back : Back → Tables → Back
 back b t = record { answer = record { tables = t; reply = b .answer .reply }; codes = b .codes }
 
--- by the service that is asked for: what a DETACH, an ENQ, a DEQ, a POST, a GETMAIN and a FREEMAIN come to, and first all others
+-- by the service that is asked for: what a DETACH, an ENQ, a DEQ, a POST, a GETMAIN and a FREEMAIN come to, and first
+-- all others
 abbrev pub byService : {X : Type 0} → X → (TaskNumber → X) → (TaskNumber → X) → (TaskNumber → X) → (EcbNumber → ℕ → X) → (TaskNumber → ℕ → ℕ → X) → X
     → Request → X
 byService x detach enq deq post getmain freemain (Attach c lpmod dpmod ecb) = x
@@ -125,3 +128,10 @@ grantsAtOnce f g =
     (λ c. back (f g) (withFamily (f g .answer .tables) (familyOf (allGo (f g .answer .tables .family .places)))))
     (λ c. back (f g) (withFamily (f g .answer .tables) (g .tables .family)))
     (λ e code. f g) (λ c bytes subpool. f g) (f g) (g .asking .request)
+
+-- none of them meets the contract of `serve`
+pub record ImpostorsCaught : Type 0 where
+  pub refusing : (why : Given → Refusal) → Caught (refusesAll why)
+  pub saying-zero : (besides : Given → ℕ) (f : Service) → Caught (saysZero besides f)
+  pub copying : (f : Service) → Caught (copiesBack f)
+  pub granting : (f : Service) → Caught (grantsAtOnce f)

@@ -1,4 +1,5 @@
--- THE TABLES OPEN, under one name: a proof that says `unfolding tables-open` computes with every definition of document 01 and with the tables that
+-- THE TABLES OPEN, under one name: a proof that says `unfolding tables-open` computes with every definition of document
+-- 01 and with the tables that
 -- keep a step. Assumes nothing.
 use Rattle.lists.specs.Once.{onceFrom}
 use Rattle.lists.specs.Tables.{padded}

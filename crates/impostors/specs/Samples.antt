@@ -1,9 +1,10 @@
--- WHAT WRONG ANSWERS ARE TRIED BY: requests with their lists, and the steps that they lead to from a fresh one. Assumes nothing.
+-- WHAT WRONG ANSWERS ARE TRIED BY: requests with their lists, and the steps that they lead to from a fresh one. Assumes
+-- nothing.
 use Prim.Native.Nat.{ℕ}
 use mathlib.Core.Bool.{Bool, true, false, _&&_}
 use mathlib.Core.List.{List, [], _∷_, map}
 use lib.Dec.{eqb}
-use lib.IntN.{ℤ, pos}
+use lib.IntN.{pos}
 use lib.ListN.{length, replicate}
 use Rattle.lists.specs.Tables.{padded}
 use Rattle.kinds.specs.Limits.{majorBytes, longestMinor, longestList}
@@ -15,7 +16,7 @@ use Rattle.kinds.specs.declared.ecbs.EcbList.{EcbList}
 use Rattle.kinds.specs.declared.tasks.MaybeEcb.{MaybeEcb}
 use Rattle.kinds.specs.declared.tasks.MaybeEcb.the-variants.{NoEcb, Named}
 use Rattle.kinds.specs.declared.requests.Request.{Request}
-use Rattle.kinds.specs.declared.requests.Request.the-variants.{Attach, Enq, Deq, Wait, Post, Getmain, Freemain}
+use Rattle.kinds.specs.declared.requests.Request.the-variants.{Attach, End, Enq, Deq, Wait, Post, Getmain, Freemain}
 use Rattle.kinds.specs.declared.requests.Ret.{Ret}
 use Rattle.kinds.specs.declared.requests.Ret.the-variants.{None}
 use Rattle.kinds.specs.declared.requests.DeqRet.{DeqRet}
@@ -100,9 +101,13 @@ abbrev pub allDone : Step → List Asking → Bool
 allDone s [] = true
 allDone s (a ∷ l) = eqb (ruled s a .outcome .number) 0 && allDone (ruled s a .outcome .tables) l
 
--- RUNS from a fresh step, 200/150, whose task 1 attaches the others
+-- RUNS from a fresh step, 200/150
 
--- 2 is a daughter of 1, and 3 of 2
+-- 2 is a daughter of 1
+abbrev pub oneDaughter : List Asking
+oneDaughter = daughter 1 ∷ []
+
+-- and 3 of 2
 abbrev pub twoGenerations : List Asking
 twoGenerations = daughter 1 ∷ daughter 2 ∷ []
 
@@ -136,6 +141,15 @@ sharedByTwo =
 abbrev pub fifth : Asking
 fifth = enq 5 None 0 (shr x ∷ [])
 
+abbrev pub behindFour : List Asking
+behindFour =
+    daughter 1 ∷ daughter 1 ∷ daughter 1 ∷ daughter 1
+    ∷ enq 2 None 0 (shr x ∷ [])
+    ∷ enq 3 None 0 (shr x ∷ [])
+    ∷ enq 4 None 0 (exc x ∷ [])
+    ∷ fifth
+    ∷ []
+
 -- 2 owns x and 3 owns y, and 4 waits for both
 abbrev pub bothAsked : List Asking
 bothAsked =
@@ -144,6 +158,25 @@ bothAsked =
     ∷ enq 3 None 0 (exc y ∷ [])
     ∷ enq 4 None 0 (exc x ∷ exc y ∷ [])
     ∷ []
+
+-- 1 shares x
+abbrev pub sharedByOne : List Asking
+sharedByOne = enq 1 None 0 (shr x ∷ []) ∷ []
+
+-- 2, who has ECB 10, has a daughter 3; and 3 owns x, for which 4, a daughter of 1, waits
+abbrev pub motherWithEcb : List Asking
+motherWithEcb = attach 1 (Named (ecb 10)) ∷ daughter 2 ∷ []
+
+abbrev pub daughterHoldsBack : List Asking
+daughterHoldsBack =
+    attach 1 (Named (ecb 10)) ∷ daughter 2 ∷ daughter 1 ∷ enq 3 None 0 (exc x ∷ []) ∷ enq 4 None 0 (exc x ∷ []) ∷ []
+
+-- 2 has a daughter 3, who had ECB 11, has ended and is not detached; 2, who had ECB 10, is so herself
+abbrev pub undetached : List Asking
+undetached = daughter 1 ∷ attach 2 (Named (ecb 11)) ∷ alone (End (task 3) 0) ∷ []
+
+abbrev pub endedOnce : List Asking
+endedOnce = attach 1 (Named (ecb 10)) ∷ alone (End (task 2) 0) ∷ []
 
 -- ECB 3 is complete with code 5
 abbrev pub postedOnce : List Asking
@@ -162,4 +195,7 @@ abbrev pub midPage : List Asking
 midPage = getmain 1 6144 5 ∷ getmain 1 8 5 ∷ freemain 1 0 6144 5 ∷ []
 
 abbrev pub runs : List (List Asking)
-runs = twoGenerations ∷ withEcb ∷ daughterOwns ∷ owned ∷ awaited ∷ sharedByTwo ∷ bothAsked ∷ postedOnce ∷ waitedOn ∷ oneArea ∷ midPage ∷ []
+runs =
+    oneDaughter ∷ twoGenerations ∷ withEcb ∷ motherWithEcb ∷ undetached ∷ endedOnce
+    ∷ daughterOwns ∷ owned ∷ awaited ∷ sharedByOne ∷ sharedByTwo ∷ behindFour ∷ bothAsked ∷ daughterHoldsBack
+    ∷ postedOnce ∷ waitedOn ∷ oneArea ∷ midPage ∷ []

@@ -1,7 +1,11 @@
--- THE SLIPS "we have already paid for", each as a whole service made from any other, of which it keeps all but the slip. Assumes nothing.
+-- THE SLIPS "we have already paid for", each as a whole service made from any other. It differs from that one only in
+-- what it
+-- does with the kind of request that the slip is about; there it may err in more than the slip, and is caught at a
+-- request
+-- where the slip is its error. Assumes nothing.
 use Prim.Native.Nat.{ℕ, zero, suc, _/_, _+_}
 use mathlib.Core.Bool.{Bool, cond, not, _&&_, _||_}
-use mathlib.Core.List.{List, []}
+use mathlib.Core.List.{List}
 use lib.Dec.{leb, ltb}
 use lib.ListN.{set}
 use Rattle.lists.specs.Lists.{some, every, mapAt}
@@ -23,21 +27,22 @@ use Rattle.events.specs.Blocks.{eventsOf}
 use Rattle.queue.specs.Queues.{live}
 use Rattle.storage.specs.Stored.{live as liveAreas}
 use Rattle.services.specs.Kept.{withFamily, withSignals, withStorage}
-use Rattle.services.specs.declared.Tables.{Tables}
-use Rattle.impostors.specs.Impostors.{Given, Back, Service, back, byService}
+use Rattle.impostors.specs.Impostors.{Back, Service, Caught, back, byService}
 
 -- with other tasks than the service gives
 abbrev tasked : Back → List Task → Back
 tasked b ts = back b (withFamily (b .answer .tables) (familyOf ts))
 
--- "Letting a new shared request join shared owners past a waiting exclusive one": whoever asks for nothing exclusive goes on
+-- "Letting a new shared request join shared owners past a waiting exclusive one": whoever asks for nothing exclusive
+-- goes on
 abbrev pub joinsOwners : Service → Service
 joinsOwners f g =
     byService (f g) (λ task. f g)
     (λ c. cond (some (λ (a : Ask). a .exclusive) (namesIn (g .asking .names) .asks)) (f g) (tasked (f g) (g .tables .family .places)))
     (λ c. f g) (λ e code. f g) (λ c bytes subpool. f g) (f g) (g .asking .request)
 
--- "Removing a waiting entry without looking for those it held back": whom DETACH names is gone, and all others wait as they did
+-- "Removing a waiting entry without looking for those it held back": whom DETACH names is gone, and all others wait as
+-- they did
 abbrev pub forgetsHeldBack : Service → Service
 forgetsHeldBack f g =
     byService (f g) (λ task. tasked (f g) (withPlace (g .tables .family .places) (task .0) noTask))
@@ -86,3 +91,12 @@ abbrev pub reusesNothing : Service → Service
 reusesNothing f g =
     byService (f g) (λ task. f g) (λ c. f g) (λ c. f g) (λ e code. f g) (λ c bytes subpool. f g)
     (back (f g) (withStorage (f g .answer .tables) (g .tables .storage))) (g .asking .request)
+
+-- none of them meets the contract of `serve`
+pub record SlipsCaught : Type 0 where
+  pub joining : (f : Service) → Caught (joinsOwners f)
+  pub held-back : (f : Service) → Caught (forgetsHeldBack f)
+  pub first-grant : (f : Service) → Caught (wakesAtFirstGrant f)
+  pub replacing : (f : Service) → Caught (replacesCode f)
+  pub first-page : (f : Service) → Caught (judgesFirstPage f)
+  pub reusing-nothing : (f : Service) → Caught (reusesNothing f)

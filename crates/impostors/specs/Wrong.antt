@@ -1,5 +1,7 @@
--- WRONG ANSWERS, ruled out by a contract. T says whether the arguments fit the types of the parameters; Q is what the contract asks, of the lifetimes
--- and the arguments; P what it promises, of these, the result and what the parameters are at the end: `Pre` and `Post` that the prover makes of a
+-- WRONG ANSWERS, ruled out by a contract. T says whether the arguments fit the types of the parameters; Q is what the
+-- contract asks, of the lifetimes
+-- and the arguments; P what it promises, of these, the result and what the parameters are at the end: `Pre` and `Post`
+-- that the prover makes of a
 -- function's clauses. Assumes nothing.
 use mathlib.Core.Path.{_≡_, sym, ap, _∙_}
 use mathlib.Core.Bool.{Bool, true, false}
@@ -9,7 +11,8 @@ use Rattle.lists.specs.Bools.{never}
 pub told-apart : {R : Type 0} {x y : R} → x ≡ y → (test : R → Bool) → test x ≡ true → test y ≡ false → ⊥
 told-apart {R} {x} {y} e test h k = never (test x) h (ap test e ∙ k)
 
--- ANSWERS. Something is given, as the types and the contract ask, for which f breaks what it promises, whatever the parameters are at the end.
+-- ANSWERS. Something is given, as the types and the contract ask, for which f breaks what it promises, whatever the
+-- parameters are at the end.
 pub record RuledOut {K : Type 0} {A R E : K → Type 0} (T : (k : K) → A k → Bool) (Q : (k : K) → A k → Type 0)
     (P : (k : K) → A k → R k → E k → Type 0) (f : (k : K) → A k → R k) : Type 0 where
   pub lifetimes : K
@@ -18,7 +21,8 @@ pub record RuledOut {K : Type 0} {A R E : K → Type 0} (T : (k : K) → A k →
   pub asked : Q lifetimes given
   pub broken : (e : E lifetimes) → P lifetimes given (f lifetimes given) e → ⊥
 
--- where the promise is that what is seen of the result is d: a test is true of the answer and false of d; antt finds see and d in the contract
+-- where the promise is that what is seen of the result is d: a test is true of the answer and false of d; antt finds
+-- see and d in the contract
 pub wrong-at : {K : Type 0} {A R E W : K → Type 0} {T : (k : K) → A k → Bool} {Q : (k : K) → A k → Type 0} {f : (k : K) → A k → R k}
     {see : (k : K) → R k → W k} {d : (k : K) → A k → W k} (k : K) (a : A k) → T k a ≡ true → Q k a → (test : W k → Bool)
     → test (see k (f k a)) ≡ true → test (d k a) ≡ false → RuledOut {E = E} T Q (λ k a r e. see k r ≡ d k a) f
@@ -38,7 +42,8 @@ pub wrong-with : {K : Type 0} {A R E W : K → Type 0} {T : (k : K) → A k → 
     → test (see k (f k a .0) (f k a .1)) ≡ true → test (d k a) ≡ false → RuledOutWith T Q (λ k a r e. see k r e ≡ d k a) f
 wrong-with k a t q test h n = record { lifetimes = k; given = a; fitting = t; asked = q; broken = λ p. told-apart p test h n }
 
--- DEAF ANSWERS. Two things are given, as the types and the contract ask, that no one result fits: whoever does not look at what they differ in is
+-- DEAF ANSWERS. Two things are given, as the types and the contract ask, that no one result fits: whoever does not look
+-- at what they differ in is
 -- ruled out, whatever it answers.
 pub record Heeds {K : Type 0} {A R E : K → Type 0} (T : (k : K) → A k → Bool) (Q : (k : K) → A k → Type 0)
     (P : (k : K) → A k → R k → E k → Type 0) : Type 0 where

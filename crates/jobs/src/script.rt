@@ -7,8 +7,9 @@ use crate::text;
 use crate::turn;
 use services::Tables;
 
-// Answers whether the end of the input was seen and every answer written. That is for the system to say, so nothing is promised of it. Before the
-// first `fresh` the tables are those of a step over with code 0, which a fresh start with dispatching above limit gives back.
+// Answers whether the end of the input was seen and every answer written. That is for the system to say, so nothing is
+// promised of it. Before the first `fresh` the tables are those of a step over with code 0, which a fresh start with
+// dispatching above limit gives back.
 pub fn run() -> bool {
     let mut block = [0u8; input::BLOCK];
     let mut out = [0u8; text::BLOCK];

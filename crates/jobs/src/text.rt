@@ -1,5 +1,6 @@
-// Bytes to be written, kept in a block until it is full. Each function takes the place where the block's bytes end and answers the new one. A place
-// past the block says that a write has failed: it stays so, and the bytes put there are dropped.
+// Bytes to be written, kept in a block until it is full. Each function takes the place where the block's bytes end and
+// answers the new one. A place past the block says that a write has failed: it stays so, and the bytes put there are
+// dropped.
 use crate::failure;
 ghost use mathlib.Core.Path.{_≡_};
 ghost use Prim.Native.Nat.{_+_, _<_};

@@ -1,0 +1,83 @@
+-- PARTS OF TABLES that counterexamples are made of. Assumes nothing.
+use Prim.Native.Nat.{ℕ}
+use mathlib.Core.Bool.{Bool, false}
+use mathlib.Core.List.{List, [], _∷_}
+use lib.Dec.{eqb}
+use denote.Ref.{RefT}
+use Rattle.lists.specs.Tables.{padded}
+use Rattle.kinds.specs.Limits.{highestTask, allEcbs}
+use Rattle.kinds.specs.Ecbs.{noEcb}
+use Rattle.kinds.specs.Tasks.{noTask}
+use Rattle.kinds.specs.Replies.{refusalNumber, faultNumber}
+use Rattle.kinds.specs.declared.numbers.Address.{Address}
+use Rattle.kinds.specs.declared.ecbs.Ecb.{Ecb}
+use Rattle.kinds.specs.declared.tasks.Task.{Task}
+use Rattle.kinds.specs.declared.tasks.Condition.{Condition}
+use Rattle.kinds.specs.declared.tasks.Condition.the-variants.{Ready, ResourceWait, EcbWait, Ended}
+use Rattle.kinds.specs.declared.tasks.MaybeEcb.{MaybeEcb}
+use Rattle.kinds.specs.declared.tasks.MaybeEcb.the-variants.{NoEcb, Named}
+use Rattle.kinds.specs.declared.replies.Verdict.{Verdict}
+use Rattle.kinds.specs.declared.replies.Verdict.the-variants.{Go, Refuse, Fail}
+use Rattle.rules.specs.Control.{Entry}
+use Rattle.rules.specs.Enq.{entryFor}
+use Rattle.rules.specs.Table.{exc, rowOf}
+use Rattle.history.specs.Samples.{x}
+use Rattle.family.specs.Families.{familyOf}
+use Rattle.family.specs.declared.Family.{Family}
+use Rattle.events.specs.Blocks.{eventsOf}
+use Rattle.events.specs.declared.Events.{Events}
+use Rattle.impostors.specs.Samples.{task, ecb}
+
+-- bytes that are lent
+abbrev pub lent : List ℕ → RefT (List ℕ)
+lent l = record { ptr = (0, 0); name = 0; now = l }
+
+abbrev pub address : ℕ → Address
+address n = record { 0 = n }
+
+-- the number that a verdict stands for, 0 where it is to go on
+abbrev pub verdictNumber : Verdict → ℕ
+verdictNumber Go = 0
+verdictNumber (Refuse why) = refusalNumber why
+verdictNumber (Fail what) = faultNumber what
+
+abbrev pub goes : Verdict → Bool
+goes v = eqb (verdictNumber v) 0
+
+-- ENTRIES: task 1 owns x, and 2 waits for it
+abbrev pub ownerAndWaiter : List Entry
+ownerAndWaiter = entryFor 1 (exc x) ∷ entryFor 2 (exc x) ∷ []
+
+-- TASKS 1, 2 and so on, the other places free
+abbrev pub family : List Task → Family
+family l = familyOf (padded highestTask noTask l)
+
+-- a task 200/150 of this mother, in this condition and with this ECB
+abbrev pub under : ℕ → Condition → MaybeEcb → Task
+under m k e = rowOf k m 200 150 e
+
+-- task 1, which has no mother
+abbrev pub first : Task
+first = under 0 Ready NoEcb
+
+-- a task of this mother; one that waits for an entry's control; for so many posts
+abbrev pub ready : ℕ → Task
+ready m = under m Ready NoEcb
+
+abbrev pub held : ℕ → Task
+held m = under m ResourceWait NoEcb
+
+abbrev pub waiting : ℕ → ℕ → Task
+waiting m n = under m (EcbWait n) NoEcb
+
+-- it was attached with ECB 5, has ended, and is not detached
+abbrev pub ended : ℕ → Task
+ended m = under m Ended (Named (ecb 5))
+
+-- ECBS 0, 1 and so on, the others zero
+abbrev pub events : List Ecb → Events
+events l = eventsOf (padded allEcbs noEcb l)
+
+-- task w waits on it
+abbrev pub awaited : ℕ → Ecb
+awaited w = record { waiter = task w; complete = false; code = 0 }

@@ -90,4 +90,10 @@ granting-caught-at-deq f =
     caught (grantsAtOnce f) (on (after start awaited) (deq 1 DeqNone 0 (exc x ∷ []))) refl somebodyWaits refl refl
 
 pub impostors-caught : ImpostorsCaught
-impostors-caught = record { refusing = refusing-caught; saying-zero = saying-zero-caught; copying = copying-caught; granting = granting-caught-at-enq }
+impostors-caught = record {
+  refusing = refusing-caught;
+  saying-zero = saying-zero-caught;
+  copying = copying-caught;
+  granting-at-enq = granting-caught-at-enq;
+  granting-at-deq = granting-caught-at-deq;
+}

@@ -1,68 +1,85 @@
 -- EACH SLIP IS CAUGHT by the case that we paid for: no service that makes it meets the contract of `serve`. Assumes
 -- nothing.
 use Prim.Native.Nat.{ℕ}
-use mathlib.Core.Path.{_≡_, refl, ap}
-use mathlib.Core.Bool.{Bool, true, false, not}
+use mathlib.Core.Path.{_≡_, refl}
+use mathlib.Core.Bool.{Bool, true, not, _&&_}
 use mathlib.Core.List.{[], _∷_}
 use lib.Dec.{eqb}
-use Rattle.kinds.specs.Tasks.{noTask, inResourceWait}
+use Rattle.kinds.specs.Tasks.{inResourceWait}
 use Rattle.kinds.specs.declared.requests.Request.the-variants.{Detach}
 use Rattle.kinds.specs.declared.requests.DeqRet.the-variants.{None as DeqNone}
-use Rattle.rules.specs.Steps.{Step, Served}
+use Rattle.rules.specs.Steps.{Served}
 use Rattle.rules.specs.Table.{exc}
-use Rattle.rules.specs.Family.{withPlace, conditionOf}
+use Rattle.rules.specs.Family.{conditionOf}
 use Rattle.rules.specs.Events.{ecbAt}
 use Rattle.history.specs.Samples.{start, x}
 use Rattle.services.specs.declared.Tables.{Tables}
 use Rattle.impostors.specs.Opened.{tables-open}
-use Rattle.impostors.specs.Impostors.{Service, Caught, caught, on}
-use Rattle.impostors.specs.Slips.{SlipsCaught, joinsOwners, forgetsHeldBack, wakesAtFirstGrant, replacesCode, judgesFirstPage, reusesNothing}
-use Rattle.impostors.specs.Samples.{task, alone, deq, post, getmain, freemain, after, sharedByTwo, fifth, behindFour, bothAsked, postedOnce, oneArea, midPage}
+use Rattle.impostors.specs.Impostors.{Given, Service, Caught, caught, on}
+use Rattle.impostors.specs.Slips.{SlipsCaught, doing, joining, holdingBack, wakingEarly, replacing, joinsOwners, forgetsHeldBack, wakesAtFirstGrant, replacesCode, judgesFirstPage, reusesNothing}
+use Rattle.impostors.specs.Samples.{Asking, task, alone, deq, post, getmain, freemain, after, sharedByTwo, fifth, behindFour, bothAsked, postedOnce, oneArea, midPage}
 
 -- task n is in a resource wait
 abbrev waits : ℕ → Served Tables → Bool
 waits n o = inResourceWait (conditionOf (o .outcome .tables .family .places) n)
 
--- CASE 1: 5 has to wait behind 4
-abbrev shared-by-two : Step
-shared-by-two = after start sharedByTwo
+-- What is answered is computed first, without the other service; antt then need not carry that along.
 
-before-5 : inResourceWait (conditionOf (shared-by-two .tasks) 5) ≡ false
+-- CASE 1: 2 and 3 share x, 4 waits for it exclusive, and 5 asks for it shared: it has to wait behind 4
+abbrev fifth-asks : Given
+fifth-asks = on (after start sharedByTwo) fifth
+
+goes-past : not (waits 5 (doing fifth-asks (joining fifth))) ≡ true
 unfolding tables-open
-before-5 = refl
+goes-past = refl
 
 pub joining-caught : (f : Service) → Caught (joinsOwners f)
 unfolding tables-open
-joining-caught f = caught (joinsOwners f) (on shared-by-two fifth) refl (λ o. not (waits 5 o)) (ap not before-5) refl
+joining-caught f = caught (joinsOwners f) fifth-asks refl (λ o. not (waits 5 o)) goes-past refl
 
 -- CASE 4: then 4 is detached, and 5 owns x with 2 and 3
-abbrev behind-4 : Step
-behind-4 = after start behindFour
+abbrev detach-4 : Asking
+detach-4 = alone (Detach (task 1) (task 4))
 
-still-5 : inResourceWait (conditionOf (withPlace (behind-4 .tasks) 4 noTask) 5) ≡ true
+still-waits : waits 5 (doing (on (after start behindFour) detach-4) (holdingBack detach-4)) ≡ true
 unfolding tables-open
-still-5 = refl
+still-waits = refl
 
 pub held-back-caught : (f : Service) → Caught (forgetsHeldBack f)
 unfolding tables-open
-held-back-caught f = caught (forgetsHeldBack f) (on behind-4 (alone (Detach (task 1) (task 4)))) refl (waits 5) still-5 refl
+held-back-caught f = caught (forgetsHeldBack f) (on (after start behindFour) detach-4) refl (waits 5) still-waits refl
 
 -- 4 waits for x and y: when 2 gives x back, it still waits for y
+abbrev deq-x : Asking
+deq-x = deq 2 DeqNone 0 (exc x ∷ [])
+
+goes-on-early : not (waits 4 (doing (on (after start bothAsked) deq-x) (wakingEarly deq-x))) ≡ true
+unfolding tables-open
+goes-on-early = refl
+
 pub first-grant-caught : (f : Service) → Caught (wakesAtFirstGrant f)
 unfolding tables-open
-first-grant-caught f = caught (wakesAtFirstGrant f) (on (after start bothAsked) (deq 2 DeqNone 0 (exc x ∷ []))) refl (λ o. not (waits 4 o)) refl refl
+first-grant-caught f =
+    caught (wakesAtFirstGrant f) (on (after start bothAsked) deq-x) refl (λ o. not (waits 4 o)) goes-on-early refl
 
 -- ECB 3 is complete with 5, and is posted with 7: its code stays 5
+abbrev has-7 : Served Tables → Bool
+has-7 o = eqb (ecbAt (o .outcome .tables .events .ecbs) 3 .code) 7
+
+replaced : has-7 (doing (on (after start postedOnce) (post 1 3 7)) (replacing (post 1 3 7) 3)) ≡ true
+unfolding tables-open
+replaced = refl
+
 pub replacing-caught : (f : Service) → Caught (replacesCode f)
 unfolding tables-open
-replacing-caught f =
-    caught (replacesCode f) (on (after start postedOnce) (post 1 3 7)) refl
-    (λ o. eqb (ecbAt (o .outcome .tables .events .ecbs) 3 .code) 7) refl refl
+replacing-caught f = caught (replacesCode f) (on (after start postedOnce) (post 1 3 7)) refl has-7 replaced refl
 
 -- 5,000 bytes of subpool 10 at 0 would touch page 1, which holds an area of subpool 5: they are given 8192
 pub first-page-caught : (f : Service) → Caught (judgesFirstPage f)
 unfolding tables-open
-first-page-caught f = caught (judgesFirstPage f) (on (after start midPage) (getmain 1 5000 10)) refl (λ o. eqb (o .outcome .besides) 0) refl refl
+first-page-caught f =
+    caught (judgesFirstPage f) (on (after start midPage) (getmain 1 5000 10)) refl
+    (λ o. eqb (o .outcome .besides) 0 && eqb (o .outcome .number) 0) refl refl
 
 -- the one area is freed: none is left
 pub reusing-nothing-caught : (f : Service) → Caught (reusesNothing f)

@@ -85,8 +85,8 @@ back b t = record { answer = record { tables = t; reply = b .answer .reply }; co
 
 -- by the service that is asked for: what a DETACH, an ENQ, a DEQ, a POST, a GETMAIN and a FREEMAIN come to, and first
 -- all others
-abbrev pub byService : {X : Type 0} → X → (TaskNumber → X) → (TaskNumber → X) → (TaskNumber → X) → (EcbNumber → ℕ → X) → (TaskNumber → ℕ → ℕ → X) → X
-    → Request → X
+abbrev pub byService : {X : Type 0} → X → (TaskNumber → X) → (TaskNumber → X) → (TaskNumber → X) → (EcbNumber → ℕ → X)
+    → (TaskNumber → ℕ → ℕ → Bool → X) → X → Request → X
 byService x detach enq deq post getmain freemain (Attach c lpmod dpmod ecb) = x
 byService x detach enq deq post getmain freemain (Detach c task) = detach task
 byService x detach enq deq post getmain freemain (End c code) = x
@@ -96,7 +96,7 @@ byService x detach enq deq post getmain freemain (Deq c ret) = deq c
 byService x detach enq deq post getmain freemain (Wait c n) = x
 byService x detach enq deq post getmain freemain (Post c e code) = post e code
 byService x detach enq deq post getmain freemain (Clear c e) = x
-byService x detach enq deq post getmain freemain (Getmain c bytes subpool conditional) = getmain c bytes subpool
+byService x detach enq deq post getmain freemain (Getmain c bytes subpool conditional) = getmain c bytes subpool conditional
 byService x detach enq deq post getmain freemain (Freemain c address bytes subpool) = freemain
 byService x detach enq deq post getmain freemain Dispatch = x
 
@@ -127,11 +127,12 @@ grantsAtOnce f g =
     byService (f g) (λ task. f g)
     (λ c. back (f g) (withFamily (f g .answer .tables) (familyOf (allGo (f g .answer .tables .family .places)))))
     (λ c. back (f g) (withFamily (f g .answer .tables) (g .tables .family)))
-    (λ e code. f g) (λ c bytes subpool. f g) (f g) (g .asking .request)
+    (λ e code. f g) (λ c bytes subpool conditional. f g) (f g) (g .asking .request)
 
 -- none of them meets the contract of `serve`
 pub record ImpostorsCaught : Type 0 where
   pub refusing : (why : Given → Refusal) → Caught (refusesAll why)
   pub saying-zero : (besides : Given → ℕ) (f : Service) → Caught (saysZero besides f)
   pub copying : (f : Service) → Caught (copiesBack f)
-  pub granting : (f : Service) → Caught (grantsAtOnce f)
+  pub granting-at-enq : (f : Service) → Caught (grantsAtOnce f)
+  pub granting-at-deq : (f : Service) → Caught (grantsAtOnce f)

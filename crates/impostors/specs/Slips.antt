@@ -1,96 +1,137 @@
--- THE SLIPS "we have already paid for", each as a whole service made from any other. It differs from that one only in
--- what it
--- does with the kind of request that the slip is about; there it may err in more than the slip, and is caught at a
--- request
--- where the slip is its error. Assumes nothing.
+-- THE SLIPS "we have already paid for", each as a whole service made from any other: of one kind of request it answers
+-- as the
+-- rules do but for the slip, and of all others as that service does. Assumes nothing.
 use Prim.Native.Nat.{ℕ, zero, suc, _/_, _+_}
-use mathlib.Core.Bool.{Bool, cond, not, _&&_, _||_}
-use mathlib.Core.List.{List}
+use mathlib.Core.Bool.{Bool, false, cond, not, _&&_, _||_}
+use mathlib.Core.List.{List, []}
 use lib.Dec.{leb, ltb}
-use lib.ListN.{set}
+use lib.ListN.{length, set}
 use Rattle.lists.specs.Lists.{some, every, mapAt}
-use Rattle.kinds.specs.Limits.{region, doubleword}
-use Rattle.kinds.specs.Tasks.{withCondition, noTask}
+use Rattle.lists.specs.Pick.{pick}
+use Rattle.kinds.specs.Limits.{region, doubleword, mostAreas}
+use Rattle.kinds.specs.Ranges.{lengthGood, subpoolGood}
+use Rattle.kinds.specs.Tasks.{withCondition, inResourceWait, isLive}
+use Rattle.kinds.specs.declared.replies.Refusal.the-variants.{OutOfRange, NoAreaFree}
+use Rattle.kinds.specs.declared.replies.Verdict.{Verdict}
+use Rattle.kinds.specs.declared.replies.Verdict.the-variants.{Refuse}
+use Rattle.names.specs.Named.{namesIn}
+use Rattle.kinds.specs.declared.numbers.TaskNumber.{TaskNumber}
+use Rattle.kinds.specs.declared.numbers.Place.{Place}
+use Rattle.kinds.specs.declared.numbers.Place.the-variants.{At, Nowhere}
+use Rattle.kinds.specs.declared.ecbs.Ecb.{Ecb}
 use Rattle.kinds.specs.declared.areas.Area.{Area}
 use Rattle.kinds.specs.declared.tasks.Task.{Task}
-use Rattle.kinds.specs.declared.replies.Reply.the-variants.{Done}
-use Rattle.names.specs.Named.{namesIn}
-use Rattle.rules.specs.Names.{Resource, Ask, namesOf}
-use Rattle.rules.specs.Control.{Entry, hasEntry}
-use Rattle.rules.specs.Family.{withPlace}
+use Rattle.kinds.specs.declared.tasks.Condition.the-variants.{ResourceWait}
+use Rattle.rules.specs.Names.{Ask}
+use Rattle.rules.specs.Control.{Entry, shared, owners, holding, ofTask}
+use Rattle.rules.specs.Steps.{Step, Served, untouched, withTasks, withEcbs, withAreas}
+use Rattle.rules.specs.Admission.{gateOf, through, settled}
+use Rattle.rules.specs.Getmain.{wanted, roomVerdict, given}
+use Rattle.rules.specs.Family.{conditionOf}
 use Rattle.rules.specs.Waits.{letGo}
-use Rattle.rules.specs.Events.{completed}
+use Rattle.rules.specs.Events.{ecbAt}
 use Rattle.rules.specs.Storage.{firstPage, pastPage, bytesApart, oneHolder, endOf, placedAt}
-use Rattle.rules.specs.Getmain.{wanted}
-use Rattle.family.specs.Families.{familyOf}
-use Rattle.events.specs.Blocks.{eventsOf}
-use Rattle.queue.specs.Queues.{live}
-use Rattle.storage.specs.Stored.{live as liveAreas}
-use Rattle.services.specs.Kept.{withFamily, withSignals, withStorage}
-use Rattle.impostors.specs.Impostors.{Back, Service, Caught, back, byService}
+use Rattle.services.specs.Kept.{answeredWith}
+use Rattle.services.specs.declared.Tables.{Tables}
+use Rattle.impostors.specs.Samples.{Asking, ruled}
+use Rattle.impostors.specs.Answers.{answerOf, butServed}
+use Rattle.impostors.specs.Impostors.{Given, Back, Service, Caught, byService}
 
--- with other tasks than the service gives
-abbrev tasked : Back → List Task → Back
-tasked b ts = back b (withFamily (b .answer .tables) (familyOf ts))
+-- what is answered where this is done to a sound step, with 100 before it
+abbrev pub doing : Given → (Step → Served Step) → Served Tables
+doing g f = answeredWith (g .tables) (g .asking .area) (λ s area. f s)
 
--- "Letting a new shared request join shared owners past a waiting exclusive one": whoever asks for nothing exclusive
--- goes on
+abbrev slipped : Given → (Step → Served Step) → Back
+slipped g f = record { answer = answerOf (doing g f .outcome); codes = doing g f .codes }
+
+-- "Letting a new shared request join shared owners past a waiting exclusive one": no task comes to wait where every
+-- name is
+-- asked for shared and its owners are shared
+abbrev joins : List Entry → Ask → Bool
+joins q a = not (a .exclusive) && every shared (owners (a .name) q)
+
+abbrev pub joining : Asking → Step → Served Step
+joining a s = butServed (ruled s a) (λ u. cond (every (joins (s .queue)) (namesIn (a .names) .asks)) (withTasks u (s .tasks)) u)
+
 abbrev pub joinsOwners : Service → Service
 joinsOwners f g =
-    byService (f g) (λ task. f g)
-    (λ c. cond (some (λ (a : Ask). a .exclusive) (namesIn (g .asking .names) .asks)) (f g) (tasked (f g) (g .tables .family .places)))
-    (λ c. f g) (λ e code. f g) (λ c bytes subpool. f g) (f g) (g .asking .request)
+    byService (f g) (λ task. f g) (λ c. slipped g (joining (g .asking))) (λ c. f g) (λ e code. f g)
+    (λ c bytes subpool conditional. f g) (f g) (g .asking .request)
 
--- "Removing a waiting entry without looking for those it held back": whom DETACH names is gone, and all others wait as
--- they did
+-- "Removing a waiting entry without looking for those it held back": whoever waited before a DETACH, and is still
+-- there, waits
+abbrev stillHeld : List Task → ℕ → Task → Task
+stillHeld ts n x = cond (inResourceWait (conditionOf ts n) && isLive (x .condition)) (withCondition x ResourceWait) x
+
+abbrev pub holdingBack : Asking → Step → Served Step
+holdingBack a s = butServed (ruled s a) (λ u. withTasks u (mapAt (stillHeld (s .tasks)) 1 (u .tasks)))
+
 abbrev pub forgetsHeldBack : Service → Service
 forgetsHeldBack f g =
-    byService (f g) (λ task. tasked (f g) (withPlace (g .tables .family .places) (task .0) noTask))
-    (λ c. f g) (λ c. f g) (λ e code. f g) (λ c bytes subpool. f g) (f g) (g .asking .request)
+    byService (f g) (λ task. slipped g (holdingBack (g .asking))) (λ c. f g) (λ c. f g) (λ e code. f g)
+    (λ c bytes subpool conditional. f g) (f g) (g .asking .request)
 
--- "Waking a multi-name waiter at its first grant": whoever asked for a name that a DEQ gives back goes on
-abbrev wokenBy : List Resource → List Entry → ℕ → Task → Task
-wokenBy ns q n x = cond (some (hasEntry q n) ns) (withCondition x (letGo (x .condition))) x
+-- "Waking a multi-name waiter at its first grant": after a DEQ whoever has control of one entry goes on
+abbrev wokenBy : List Entry → ℕ → Task → Task
+wokenBy held n x = cond (some (ofTask n) held) (withCondition x (letGo (x .condition))) x
+
+abbrev pub wakingEarly : Asking → Step → Served Step
+wakingEarly a s = butServed (ruled s a) (λ u. withTasks u (mapAt (wokenBy (holding [] (u .queue))) 1 (u .tasks)))
 
 abbrev pub wakesAtFirstGrant : Service → Service
 wakesAtFirstGrant f g =
-    byService (f g) (λ task. f g) (λ c. f g)
-    (λ c. tasked (f g) (mapAt (wokenBy (namesOf (namesIn (g .asking .names))) (live (g .tables .queue))) 1 (g .tables .family .places)))
-    (λ e code. f g) (λ c bytes subpool. f g) (f g) (g .asking .request)
+    byService (f g) (λ task. f g) (λ c. f g) (λ c. slipped g (wakingEarly (g .asking))) (λ e code. f g)
+    (λ c bytes subpool conditional. f g) (f g) (g .asking .request)
 
--- "Replacing the code of an ECB that was already complete"
+-- "Replacing the code of an ECB that was already complete": a POST goes on as if it were not
+abbrev incomplete : Ecb → Ecb
+incomplete x = record { waiter = x .waiter; complete = false; code = x .code }
+
+abbrev pub replacing : Asking → ℕ → Step → Served Step
+replacing a n s = ruled (withEcbs s (s .tasks) (set (s .ecbs) n (incomplete (ecbAt (s .ecbs) n)))) a
+
 abbrev pub replacesCode : Service → Service
 replacesCode f g =
-    byService (f g) (λ task. f g) (λ c. f g) (λ c. f g)
-    (λ e code. back (f g) (withSignals (f g .answer .tables) (eventsOf (set (g .tables .events .ecbs) (e .0) (completed code))) (f g .answer .tables .family)))
-    (λ c bytes subpool. f g) (f g) (g .asking .request)
+    byService (f g) (λ task. f g) (λ c. f g) (λ c. f g) (λ e code. slipped g (replacing (g .asking) (e .0)))
+    (λ c bytes subpool conditional. f g) (f g) (g .asking .request)
 
--- "Judging only the first page a new area touches": the address is the lowest by that measure
+-- "Judging only the first page a new area touches": the lowest address by that measure is given
 abbrev apartAtFirst : Area → Area → Bool
-apartAtFirst a b = bytesApart a b && (oneHolder a b || not (leb (firstPage b) (firstPage a) && ltb (firstPage a) (pastPage b)))
+apartAtFirst a b =
+    bytesApart a b && (oneHolder a b || not (leb (firstPage b) (firstPage a) && ltb (firstPage a) (pastPage b)))
 
-abbrev lowestAtFirst : ℕ → List Area → Area → ℕ → ℕ
-lowestAtFirst zero l a s = s
+abbrev lowestAtFirst : ℕ → List Area → Area → ℕ → Place
+lowestAtFirst zero l a s = Nowhere
 lowestAtFirst (suc tries) l a s =
-    cond (leb (endOf (placedAt a s)) region && every (apartAtFirst (placedAt a s)) l) s (lowestAtFirst tries l a (s + doubleword))
+    cond (leb (endOf (placedAt a s)) region && every (apartAtFirst (placedAt a s)) l) (At (record { 0 = s }))
+    (lowestAtFirst tries l a (s + doubleword))
+
+abbrev verdictBy : Place → List Area → ℕ → ℕ → Bool → Verdict
+verdictBy p l bytes subpool conditional =
+    pick (lengthGood bytes && subpoolGood subpool)
+    (pick (leb mostAreas (length l)) (Refuse NoAreaFree) (roomVerdict p conditional))
+    (Refuse OutOfRange)
+
+abbrev pub judging : Asking → TaskNumber → ℕ → ℕ → Bool → Step → Served Step
+judging a c bytes subpool conditional s =
+    let w = wanted bytes subpool (c .0) in
+    let p = lowestAtFirst (region / doubleword) (s .areas) w 0 in
+    untouched (a .area)
+    (through (gateOf s c) s (settled (verdictBy p (s .areas) bytes subpool conditional) s c (given s w p)))
 
 abbrev pub judgesFirstPage : Service → Service
 judgesFirstPage f g =
     byService (f g) (λ task. f g) (λ c. f g) (λ c. f g) (λ e code. f g)
-    (λ c bytes subpool. record {
-      answer = record {
-        tables = f g .answer .tables;
-        reply = Done (lowestAtFirst (region / doubleword) (liveAreas (g .tables .storage)) (wanted bytes subpool (c .0)) 0);
-      };
-      codes = f g .codes;
-    })
-    (f g) (g .asking .request)
+    (λ c bytes subpool conditional. slipped g (judging (g .asking) c bytes subpool conditional)) (f g) (g .asking .request)
 
 -- ", or never reusing a freed page": what is freed stays in the table
+abbrev pub keeping : Asking → Step → Served Step
+keeping a s = butServed (ruled s a) (λ u. withAreas u (s .areas))
+
 abbrev pub reusesNothing : Service → Service
 reusesNothing f g =
-    byService (f g) (λ task. f g) (λ c. f g) (λ c. f g) (λ e code. f g) (λ c bytes subpool. f g)
-    (back (f g) (withStorage (f g .answer .tables) (g .tables .storage))) (g .asking .request)
+    byService (f g) (λ task. f g) (λ c. f g) (λ c. f g) (λ e code. f g) (λ c bytes subpool conditional. f g)
+    (slipped g (keeping (g .asking))) (g .asking .request)
 
 -- none of them meets the contract of `serve`
 pub record SlipsCaught : Type 0 where

@@ -77,7 +77,8 @@ use Rattle.services.proofs.Tables.clear.Reads as clear
 use Rattle.services.proofs.Tables.getmain.Reads as getmain
 use Rattle.services.proofs.Tables.freemain.Reads as freemain
 use Rattle.services.proofs.Tables.serve.Reads as serve
-use Rattle.impostors.specs.Fitting.{_⊗_, fits-Address, fits-DeqRet, fits-EcbList, fits-EcbNumber, fits-MaybeEcb, fits-NameList, fits-Request, fits-Ret, fits-Tables, fits-TaskNumber, fits-bool, fits-end, fits-i16, fits-lent, fits-u16, fits-u32, fits-u8}
+use Rattle.impostors.specs.Fitting.{_⊗_, fits-bool, fits-end, fits-i16, fits-lent, fits-u16, fits-u32, fits-u8}
+use Rattle.impostors.specs.Fitting.{fits-Address, fits-DeqRet, fits-EcbList, fits-EcbNumber, fits-MaybeEcb, fits-NameList, fits-Request, fits-Ret, fits-Tables, fits-TaskNumber}
 use Rattle.impostors.specs.Opened.{tables-open}
 use Rattle.impostors.specs.Wrong.{told-apart, RuledOut, wrong-at, RuledOutWith, wrong-with, Heeds, heeds}
 use Rattle.impostors.specs.Samples.{Asking, task, ecb, namesOf, ecbsOf, after, oneDaughter, twoGenerations, withEcb, daughterOwns, owned, awaited, postedOnce, waitedOn, oneArea}

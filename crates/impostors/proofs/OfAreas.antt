@@ -1,12 +1,11 @@
 -- Wrong answers that the contracts of `areas` rule out. Assumes nothing.
 use Prim.Native.Nat.{_+_, _-_, _%_}
 use mathlib.Core.Path.{refl}
-use mathlib.Core.Bool.{Bool, not, _&&_, _||_}
+use mathlib.Core.Bool.{not, _&&_, _||_}
 use lib.Dec.{eqb, leb, ltb}
 use Rattle.kinds.specs.Limits.{region, doubleword}
 use Rattle.kinds.specs.Ranges.{subpoolGood}
-use Rattle.kinds.specs.declared.areas.Area.{Area}
-use Rattle.rules.specs.Storage.{startOf, endOf, oneHolder, bytesApart, firstPage, pastPage, pagesApart}
+use Rattle.rules.specs.Storage.{startOf, endOf, oneHolder, bytesApart, pagesApart}
 use Rattle.rules.specs.HandCases.{area}
 use Rattle.areas.proofs.end_of.Reads as end-of
 use Rattle.areas.proofs.apart.Reads as apart
@@ -15,6 +14,7 @@ use Rattle.areas.proofs.shape_good.Reads as shape-good
 use Rattle.impostors.specs.Fitting.{_⊗_, fits-Area, fits-end}
 use Rattle.impostors.specs.Opened.{tables-open}
 use Rattle.impostors.specs.Wrong.{RuledOut, wrong-at}
+use Rattle.impostors.specs.Parts.{apartAtFirst}
 
 -- at its last byte: 8 bytes at 0 end at 7
 pub end-of-the-last-byte : RuledOut (λ k. fits-Area ⊗ fits-end) end-of.Pre end-of.Post
@@ -25,14 +25,10 @@ end-of-the-last-byte = wrong-at tt (area 0 8 5 1, tt) refl tt (λ n. eqb n 7) re
 pub end-of-counted-from-0 : RuledOut (λ k. fits-Area ⊗ fits-end) end-of.Pre end-of.Post (λ k a. a .0 .size)
 end-of-counted-from-0 = wrong-at tt (area 16 8 5 1, tt) refl tt (λ n. eqb n 8) refl refl
 
--- the first page of x is one of y's
-abbrev firstPageIn : Area → Area → Bool
-firstPageIn x y = leb (firstPage y) (firstPage x) && ltb (firstPage x) (pastPage y)
-
 -- only the first page of the new area is judged: 5,000 bytes of subpool 10 at 0, and subpool 5 at 6,144
 pub apart-by-the-first-page :
     RuledOut (λ k. fits-Area ⊗ fits-Area ⊗ fits-end) apart.Pre apart.Post
-    (λ k a. bytesApart (a .0) (a .1 .0) && (oneHolder (a .0) (a .1 .0) || not (firstPageIn (a .0) (a .1 .0))))
+    (λ k a. apartAtFirst (a .0) (a .1 .0))
 unfolding tables-open
 apart-by-the-first-page = wrong-at tt (area 0 5000 10 1, (area 6144 8 5 1, tt)) refl tt (λ b. b) refl refl
 

@@ -1,7 +1,7 @@
 -- Wrong answers that the contracts of `family` rule out. Assumes nothing.
 use Prim.Native.Nat.{ℕ, _+_, _-_}
 use mathlib.Core.Path.{refl}
-use mathlib.Core.Bool.{Bool, cond, not, _&&_, _||_}
+use mathlib.Core.Bool.{Bool, not, _&&_, _||_}
 use mathlib.Core.List.{List, [], _∷_, map}
 use native.Mathlib.Omega.{arith}
 use lib.Dec.{eqb, leb}
@@ -15,7 +15,6 @@ use Rattle.kinds.specs.declared.tasks.Condition.{Condition}
 use Rattle.kinds.specs.declared.tasks.Condition.the-variants.{Free, Ready}
 use Rattle.kinds.specs.declared.tasks.MaybeEcb.the-variants.{NoEcb}
 use Rattle.rules.specs.Family.{place, withPlace, conditionOf, used, directSubtask, below, chain}
-use Rattle.rules.specs.Dispatch.{noBetter}
 use Rattle.laws.specs.Wiping.{inUse}
 use Rattle.family.specs.Families.{familyOf}
 use Rattle.family.proofs.choice.lowest_free.Reads as lowest-free
@@ -30,7 +29,7 @@ use Rattle.impostors.specs.Fitting.{_⊗_, fits-Family, fits-Task, fits-
 use Rattle.impostors.specs.Opened.{tables-open}
 use Rattle.impostors.specs.Wrong.{RuledOut, wrong-at, told-apart}
 use Rattle.impostors.specs.Samples.{task, ecb}
-use Rattle.impostors.specs.Parts.{family, first, ready, waiting, ended}
+use Rattle.impostors.specs.Parts.{lastBest, family, first, ready, waiting, ended}
 
 -- a ready daughter of task 1 with these priorities
 abbrev prior : ℕ → ℕ → Task
@@ -56,14 +55,9 @@ pub lowest-free-an-ended-place :
 unfolding tables-open
 lowest-free-an-ended-place = wrong-at tt (family (first ∷ ended 1 ∷ []), tt) refl tt (eqb 2) refl refl
 
--- the number of the last that passes a test, or what was found before
-abbrev lastAt : (Task → Bool) → ℕ → ℕ → List Task → ℕ
-lastAt p n found [] = found
-lastAt p n found (x ∷ l) = lastAt p (n + 1) (cond (p x) n found) l
-
 -- the highest number among equals: 2 and not 1
 pub dispatched-the-last-among-equals : RuledOut (λ k. fits-Family ⊗ fits-end) dispatched.Pre dispatched.Post
-    (λ k a. task (lastAt (λ (x : Task). isReady (x .condition) && every (noBetter x) (a .0 .places)) 1 0 (a .0 .places)))
+    (λ k a. task (lastBest (a .0 .places)))
 unfolding tables-open
 dispatched-the-last-among-equals = wrong-at tt (family (first ∷ ready 1 ∷ []), tt) refl tt (eqb 2) refl refl
 

@@ -2,14 +2,14 @@
 -- and the
 -- tables are those of the rules wherever the mistake doesn't show. Whole services that are wrong stand in Impostors and
 -- Slips. Assumes nothing.
-use Prim.Native.Nat.{ℕ, _+_, _/_}
+use Prim.Native.Nat.{ℕ, _/_}
 use mathlib.Core.Path.{_≡_, refl}
 use mathlib.Core.Bool.{Bool, true, false, not, cond, _&&_}
 use mathlib.Core.List.{List, [], _∷_}
 use lib.Dec.{eqb}
 use lib.IntN.{ℤ, pos}
 use lib.ListN.{getD, set}
-use Rattle.lists.specs.Lists.{every, some, keep}
+use Rattle.lists.specs.Lists.{some, keep}
 use Rattle.lists.specs.Pick.{pick}
 use Rattle.kinds.specs.Limits.{region, doubleword}
 use Rattle.kinds.specs.Ranges.{endCodeGood, priorityGood, ecbGood, taskGood, lengthGood, subpoolGood, addressGood}
@@ -18,8 +18,6 @@ use Rattle.kinds.specs.declared.numbers.TaskNumber.{TaskNumber}
 use Rattle.kinds.specs.declared.numbers.EcbNumber.{EcbNumber}
 use Rattle.kinds.specs.declared.numbers.Address.{Address}
 use Rattle.kinds.specs.declared.areas.Area.{Area}
-use Rattle.kinds.specs.declared.ecbs.Ecb.{Ecb}
-use Rattle.kinds.specs.declared.tasks.Task.{Task}
 use Rattle.kinds.specs.declared.tasks.MaybeEcb.{MaybeEcb}
 use Rattle.kinds.specs.declared.tasks.MaybeEcb.the-variants.{NoEcb}
 use Rattle.kinds.specs.declared.requests.Request.{Request}
@@ -55,7 +53,6 @@ use Rattle.rules.specs.Clear.{clearDone, clearOf}
 use Rattle.rules.specs.Storage.{startOf, oneHolder, areaAt, lowestFrom}
 use Rattle.rules.specs.Getmain.{wanted, given, getmainVerdict}
 use Rattle.rules.specs.Freemain.{freemainOf}
-use Rattle.rules.specs.Dispatch.{noBetter}
 use Rattle.rules.specs.Sound.{soundStep}
 use Rattle.rules.specs.Fresh.{freshStep}
 use Rattle.rules.specs.Serve.{serviceOf}
@@ -82,7 +79,7 @@ use Rattle.impostors.specs.Fitting.{fits-Address, fits-DeqRet, fits-EcbL
 use Rattle.impostors.specs.Opened.{tables-open}
 use Rattle.impostors.specs.Wrong.{told-apart, RuledOut, wrong-at, RuledOutWith, wrong-with, Heeds, heeds}
 use Rattle.impostors.specs.Samples.{Asking, task, ecb, namesOf, ecbsOf, after, oneDaughter, twoGenerations, withEcb, daughterOwns, owned, awaited, postedOnce, waitedOn, oneArea}
-use Rattle.impostors.specs.Parts.{lent, address}
+use Rattle.impostors.specs.Parts.{lent, address, lastBest, incomplete}
 use Rattle.impostors.specs.Answers.{answerOf, answering, but, butServed, coding}
 
 -- the tables after a run from a fresh step
@@ -147,12 +144,8 @@ unfolding tables-open
 dispatch-answers-0 = wrong-at tt (tablesOf start, tt) refl tt (λ o. eqb (o .besides) 0) refl refl
 
 -- the highest number among equals: 2 and not 1, which both have 150
-abbrev lastBest : List Task → ℕ → ℕ → List Task → ℕ
-lastBest ts n found [] = found
-lastBest ts n found (y ∷ l) = lastBest ts (n + 1) (cond (isReady (y .condition) && every (noBetter y) ts) n found) l
-
 pub dispatch-the-last-among-equals : RuledOut (λ k. fits-Tables ⊗ fits-end) dispatch.Pre dispatch.Post
-    (λ k a. answering (a .0) (λ s. through (openGate s) s (done (lastBest (s .tasks) 1 0 (s .tasks)) s)))
+    (λ k a. answering (a .0) (λ s. through (openGate s) s (done (lastBest (s .tasks)) s)))
 unfolding tables-open
 dispatch-the-last-among-equals = wrong-at tt (tables oneDaughter, tt) refl tt (λ o. eqb (o .besides) 2) refl refl
 
@@ -323,9 +316,6 @@ wait-heeds-the-count =
 -- POST
 
 -- a complete ECB is posted again: 5 is replaced by 7
-abbrev incomplete : Ecb → Ecb
-incomplete e = record { waiter = e .waiter; complete = false; code = e .code }
-
 abbrev postsAgain : Step → TaskNumber → EcbNumber → ℕ → Outcome Step
 postsAgain s c e code =
     behindGate s c (postVerdict e code)

@@ -1,15 +1,17 @@
 -- PARTS OF TABLES that counterexamples are made of. Assumes nothing.
-use Prim.Native.Nat.{ℕ}
-use mathlib.Core.Bool.{Bool, false}
+use Prim.Native.Nat.{ℕ, _+_}
+use mathlib.Core.Bool.{Bool, false, not, cond, _&&_, _||_}
 use mathlib.Core.List.{List, [], _∷_}
-use lib.Dec.{eqb}
+use lib.Dec.{eqb, leb, ltb}
 use denote.Ref.{RefT}
+use Rattle.lists.specs.Lists.{every}
 use Rattle.lists.specs.Tables.{padded}
 use Rattle.kinds.specs.Limits.{highestTask, allEcbs}
 use Rattle.kinds.specs.Ecbs.{noEcb}
-use Rattle.kinds.specs.Tasks.{noTask}
+use Rattle.kinds.specs.Tasks.{noTask, isReady}
 use Rattle.kinds.specs.Replies.{refusalNumber, faultNumber}
 use Rattle.kinds.specs.declared.numbers.Address.{Address}
+use Rattle.kinds.specs.declared.areas.Area.{Area}
 use Rattle.kinds.specs.declared.ecbs.Ecb.{Ecb}
 use Rattle.kinds.specs.declared.tasks.Task.{Task}
 use Rattle.kinds.specs.declared.tasks.Condition.{Condition}
@@ -20,6 +22,8 @@ use Rattle.kinds.specs.declared.replies.Verdict.{Verdict}
 use Rattle.kinds.specs.declared.replies.Verdict.the-variants.{Go, Refuse, Fail}
 use Rattle.rules.specs.Control.{Entry}
 use Rattle.rules.specs.Enq.{entryFor}
+use Rattle.rules.specs.Dispatch.{noBetter}
+use Rattle.rules.specs.Storage.{firstPage, pastPage, bytesApart, oneHolder}
 use Rattle.rules.specs.Table.{exc, rowOf}
 use Rattle.history.specs.Samples.{x}
 use Rattle.family.specs.Families.{familyOf}
@@ -74,6 +78,14 @@ waiting m n = under m (EcbWait n) NoEcb
 abbrev pub ended : ℕ → Task
 ended m = under m Ended (Named (ecb 5))
 
+-- the highest number of the ready tasks that none is above, or 0
+abbrev lastFrom : List Task → ℕ → ℕ → List Task → ℕ
+lastFrom ts n found [] = found
+lastFrom ts n found (y ∷ l) = lastFrom ts (n + 1) (cond (isReady (y .condition) && every (noBetter y) ts) n found) l
+
+abbrev pub lastBest : List Task → ℕ
+lastBest ts = lastFrom ts 1 0 ts
+
 -- ECBS 0, 1 and so on, the others zero
 abbrev pub events : List Ecb → Events
 events l = eventsOf (padded allEcbs noEcb l)
@@ -81,3 +93,12 @@ events l = eventsOf (padded allEcbs noEcb l)
 -- task w waits on it
 abbrev pub awaited : ℕ → Ecb
 awaited w = record { waiter = task w; complete = false; code = 0 }
+
+-- as it would be before a post
+abbrev pub incomplete : Ecb → Ecb
+incomplete e = record { waiter = e .waiter; complete = false; code = e .code }
+
+-- AREAS: the two are apart, where only the first page of the first is judged
+abbrev pub apartAtFirst : Area → Area → Bool
+apartAtFirst a b =
+    bytesApart a b && (oneHolder a b || not (leb (firstPage b) (firstPage a) && ltb (firstPage a) (pastPage b)))

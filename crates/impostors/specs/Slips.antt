@@ -2,9 +2,9 @@
 -- as the
 -- rules do but for the slip, and of all others as that service does. Assumes nothing.
 use Prim.Native.Nat.{ℕ, zero, suc, _/_, _+_}
-use mathlib.Core.Bool.{Bool, false, cond, not, _&&_, _||_}
+use mathlib.Core.Bool.{Bool, cond, not, _&&_}
 use mathlib.Core.List.{List, []}
-use lib.Dec.{leb, ltb}
+use lib.Dec.{leb}
 use lib.ListN.{length, set}
 use Rattle.lists.specs.Lists.{some, every, mapAt}
 use Rattle.lists.specs.Pick.{pick}
@@ -18,7 +18,6 @@ use Rattle.names.specs.Named.{namesIn}
 use Rattle.kinds.specs.declared.numbers.TaskNumber.{TaskNumber}
 use Rattle.kinds.specs.declared.numbers.Place.{Place}
 use Rattle.kinds.specs.declared.numbers.Place.the-variants.{At, Nowhere}
-use Rattle.kinds.specs.declared.ecbs.Ecb.{Ecb}
 use Rattle.kinds.specs.declared.areas.Area.{Area}
 use Rattle.kinds.specs.declared.tasks.Task.{Task}
 use Rattle.kinds.specs.declared.tasks.Condition.the-variants.{ResourceWait}
@@ -30,10 +29,11 @@ use Rattle.rules.specs.Getmain.{wanted, roomVerdict, given}
 use Rattle.rules.specs.Family.{conditionOf}
 use Rattle.rules.specs.Waits.{letGo}
 use Rattle.rules.specs.Events.{ecbAt}
-use Rattle.rules.specs.Storage.{firstPage, pastPage, bytesApart, oneHolder, endOf, placedAt}
+use Rattle.rules.specs.Storage.{endOf, placedAt}
 use Rattle.services.specs.Kept.{answeredWith}
 use Rattle.services.specs.declared.Tables.{Tables}
 use Rattle.impostors.specs.Samples.{Asking, ruled}
+use Rattle.impostors.specs.Parts.{incomplete, apartAtFirst}
 use Rattle.impostors.specs.Answers.{answerOf, butServed}
 use Rattle.impostors.specs.Impostors.{Given, Back, Service, Caught, byService}
 
@@ -84,9 +84,6 @@ wakesAtFirstGrant f g =
     (λ c bytes subpool conditional. f g) (f g) (g .asking .request)
 
 -- "Replacing the code of an ECB that was already complete": a POST goes on as if it were not
-abbrev incomplete : Ecb → Ecb
-incomplete x = record { waiter = x .waiter; complete = false; code = x .code }
-
 abbrev pub replacing : Asking → ℕ → Step → Served Step
 replacing a n s = ruled (withEcbs s (s .tasks) (set (s .ecbs) n (incomplete (ecbAt (s .ecbs) n)))) a
 
@@ -96,10 +93,6 @@ replacesCode f g =
     (λ c bytes subpool conditional. f g) (f g) (g .asking .request)
 
 -- "Judging only the first page a new area touches": the lowest address by that measure is given
-abbrev apartAtFirst : Area → Area → Bool
-apartAtFirst a b =
-    bytesApart a b && (oneHolder a b || not (leb (firstPage b) (firstPage a) && ltb (firstPage a) (pastPage b)))
-
 abbrev lowestAtFirst : ℕ → List Area → Area → ℕ → Place
 lowestAtFirst zero l a s = Nowhere
 lowestAtFirst (suc tries) l a s =

@@ -1,17 +1,17 @@
--- How the tests on areas come out, test by test. Assumes nothing.
+-- How the tests on areas come out, test by test.
 use mathlib.Core.Path.{_≡_}
 use mathlib.Core.Bool.{true, false}
 use Prim.Native.Nat.{_≤_, _<_}
 use lib.Dec.{leb}
 use borrow.Author.Tests.{le-leb, lt-leb}
 use Rattle.kinds.specs.declared.areas.Area.{Area}
-use Rattle.rules.specs.Storage.{startOf, endOf, firstPage, pastPage, bytesApart, oneHolder, pagesApart, apart}
+use Rattle.rules.specs.Storage.{startOf, pastEnd, firstPage, pastPage, bytesApart, oneHolder, pagesApart, apart}
 
-pub bytes-first : (a b : Area) → endOf a ≤ startOf b → true ≡ bytesApart a b
+pub bytes-first : (a b : Area) → pastEnd a ≤ startOf b → true ≡ bytesApart a b
 unfolding bytesApart
 bytes-first a b h = rw (le-leb _ _ h)
 
-pub bytes-second : (a b : Area) → startOf b < endOf a → leb (endOf b) (startOf a) ≡ bytesApart a b
+pub bytes-second : (a b : Area) → startOf b < pastEnd a → leb (pastEnd b) (startOf a) ≡ bytesApart a b
 unfolding bytesApart
 bytes-second a b h = rw (lt-leb _ _ h)
 

@@ -2,7 +2,8 @@
 use kinds::Address;
 use kinds::Area;
 ghost use mathlib.Core.Path.{_≡_};
-ghost use Rattle.rules.specs.Storage.{startOf, endOf, oneHolder, bytesApart, firstPage, pastPage, pagesApart, apart as apartOf, sameArea};
+ghost use Rattle.rules.specs.Storage.{startOf, pastEnd, oneHolder, bytesApart, firstPage, pastPage, pagesApart};
+ghost use Rattle.rules.specs.Storage.{apart as apartOf, sameArea};
 ghost use Rattle.rules.specs.SoundAreas.{areaShapeGood};
 
 // In u64, since a table may hold any numbers and the sum of two u32 can overflow.
@@ -13,7 +14,7 @@ fn start_of(a: Area) -> u64
 }
 
 pub fn end_of(a: Area) -> u64
-    ensures { λ r. ⌜ r ≡ endOf a ⌝ }
+    ensures { λ r. ⌜ r ≡ pastEnd a ⌝ }
 {
     a.start.0 as u64 + a.size as u64
 }

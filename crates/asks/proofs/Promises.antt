@@ -1,8 +1,6 @@
--- No second result fits the contract of a public function, whoever wrote it. Assumes nothing.
+-- No second result fits the contract of a public function, whoever wrote it.
 use mathlib.Core.Path.{sym, _∙_, refl}
 use denote.Ref.{now}
-use Prim.Native.Nat.{ℕ}
-use lib.ListN.{replicate, length-replicate}
 use Rattle.lists.specs.Promise.{Once, OnceWith}
 use Rattle.asks.proofs.codes.enq_codes_due.Reads as enq-codes-due
 use Rattle.asks.proofs.codes.deq_codes_due.Reads as deq-codes-due
@@ -32,7 +30,7 @@ pub write-once : OnceWith write.Post (λ k e. now (e .1 .1 .0))
 write-once k a x y e d p q = (refl, p ∙ sym q)
 
 pub enq-verdict-once : Once enq-verdict.Post
-enq-verdict-once k a x y e d p q = let room = a .1 .1 .1 .1 .0 in p (replicate room 0) (length-replicate {A = ℕ} room 0) ∙ sym (q (replicate room 0) (length-replicate {A = ℕ} room 0))
+enq-verdict-once k a x y e d p q = p ∙ sym q
 
 pub deq-verdict-once : Once deq-verdict.Post
-deq-verdict-once k a x y e d p q = let room = a .1 .1 .1 .1 .0 in p (replicate room 0) (length-replicate {A = ℕ} room 0) ∙ sym (q (replicate room 0) (length-replicate {A = ℕ} room 0))
+deq-verdict-once k a x y e d p q = p ∙ sym q

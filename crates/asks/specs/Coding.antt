@@ -1,10 +1,9 @@
--- The codes of the names beside a request, by what the queue says of each name. Assumes nothing.
+-- The codes of the names beside a request, by what the queue says of each name.
 use mathlib.Core.Path.{_≡_, sym, ap, _∙_}
-use mathlib.Core.Bool.{Bool, true}
+use mathlib.Core.Bool.{Bool, true, false}
 use mathlib.Core.List.{List}
 use Prim.Native.Nat.{ℕ}
 use lib.ListN.{length, take}
-use Rattle.lists.specs.Pick.{pick}
 use Rattle.lists.specs.Tables.{padded, padded-take}
 use Rattle.kinds.specs.Limits.{longestList}
 use Rattle.kinds.specs.declared.requests.Ret.{Ret}
@@ -22,16 +21,21 @@ pub codes-front : (l : List ℕ) (n : ℕ) → length l ≡ n → take n (codesO
 unfolding codesOf
 codes-front l n e = ap (λ (k : ℕ). take k (padded longestList 0 l)) (sym e) ∙ padded-take longestList 0 l
 
--- of a name to be queued: the caller has an entry, the name is available
-unfoldable pub queuingCode : Bool → Bool → ℕ
-queuingCode has free = pick has 8 (pick free 0 4)
+-- of a name to be queued: the caller has an entry, the name is available; "8 goes before 4"
+abbrev pub queuingCode : Bool → Bool → ℕ
+queuingCode true free = 8
+queuingCode false true = 0
+queuingCode false false = 4
 
 -- of a name to be made exclusive: the caller has an entry, nobody else owns
-unfoldable pub changeCode : Bool → Bool → ℕ
-changeCode has alone = pick has (pick alone 0 4) 8
+abbrev pub changeCode : Bool → Bool → ℕ
+changeCode false alone = 8
+changeCode true true = 0
+changeCode true false = 4
 
-unfoldable pub releaseCode : Bool → ℕ
-releaseCode has = pick has 0 8
+abbrev pub releaseCode : Bool → ℕ
+releaseCode true = 0
+releaseCode false = 8
 
 abbrev pub enqCodeBy : Ret → Bool → Bool → Bool → ℕ
 enqCodeBy None has free alone = 0

@@ -15,7 +15,7 @@ ghost use Rattle.names.specs.Named.{namesIn};
 ghost use Rattle.rules.specs.Codes.{allZero, writtenOn};
 ghost use Rattle.rules.specs.Enq.{enqCodes, enqCodesDue};
 ghost use Rattle.rules.specs.Deq.{deqCodes, deqCodesDue};
-ghost use Rattle.queue.specs.Queues.{live};
+ghost use Rattle.queue.specs.Queues.{entriesIn};
 ghost use Rattle.asks.specs.Coding.{codesOf, queuingCode, changeCode, releaseCode, enqCodeBy, deqCodeBy};
 
 // Zero past the count.
@@ -61,13 +61,13 @@ fn queuing_code(has: bool, free: bool) -> u8
 fn change_code(has: bool, alone: bool) -> u8
     ensures { λ r. ⌜ r ≡ changeCode has alone ⌝ }
 {
-    if !has {
-        return 8;
+    if has {
+        if alone {
+            return 0;
+        }
+        return 4;
     }
-    if alone {
-        return 0;
-    }
-    4
+    8
 }
 
 fn release_code(has: bool) -> u8
@@ -103,7 +103,7 @@ fn deq_code(ret: DeqRet, has: bool) -> u8
 
 pub fn enq_codes(q: Queue, caller: TaskNumber, ret: Ret, l: NameList) -> Codes
     requires { ⌜ (q .count ≤ mostEntries) × (l .count ≤ longestList) ⌝ }
-    ensures { λ r. ⌜ r ≡ codesOf (enqCodes ret (live q) (caller .0) (namesIn l)) ⌝ }
+    ensures { λ r. ⌜ r ≡ codesOf (enqCodes ret (entriesIn q) (caller .0) (namesIn l)) ⌝ }
 {
     let has = entered(q, caller, l);
     let free = available(q, l);
@@ -126,7 +126,7 @@ pub fn enq_codes(q: Queue, caller: TaskNumber, ret: Ret, l: NameList) -> Codes
 
 pub fn deq_codes(q: Queue, caller: TaskNumber, ret: DeqRet, l: NameList) -> Codes
     requires { ⌜ (q .count ≤ mostEntries) × (l .count ≤ longestList) ⌝ }
-    ensures { λ r. ⌜ r ≡ codesOf (deqCodes ret (live q) (caller .0) (namesIn l)) ⌝ }
+    ensures { λ r. ⌜ r ≡ codesOf (deqCodes ret (entriesIn q) (caller .0) (namesIn l)) ⌝ }
 {
     let has = entered(q, caller, l);
     let n = l.count as usize;

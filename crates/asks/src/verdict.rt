@@ -14,45 +14,26 @@ use kinds::Ret;
 use kinds::Slot;
 use kinds::TaskNumber;
 use kinds::Verdict;
+use names::list::asks_shared;
+use names::list::names_good;
 use queue::Queue;
 ghost use mathlib.Core.Path.{_≡_};
-ghost use mathlib.Core.List.{List};
-ghost use Prim.Native.Nat.{ℕ, _≤_};
-ghost use lib.ListN.{length};
-ghost use Rattle.lists.specs.Lists.{every, some};
+ghost use mathlib.Core.Bool.{_&&_};
+ghost use Prim.Native.Nat.{_≤_};
 ghost use Rattle.kinds.specs.Limits.{mostEntries, longestList};
 ghost use Rattle.names.specs.Named.{namesIn};
-ghost use Rattle.rules.specs.Names.{Ask, namesOf};
-ghost use Rattle.rules.specs.Control.{hasEntry};
-ghost use Rattle.rules.specs.Enq.{queuesAll, duplicated as duplicatedOf, tooFewFree, enqVerdict};
-ghost use Rattle.rules.specs.Deq.{unentered as unenteredOf, deqVerdict};
-ghost use Rattle.queue.specs.Queues.{live};
+ghost use Rattle.rules.specs.Codes.{tooShort};
+ghost use Rattle.rules.specs.Enq.{queuesAll, duplicated as duplicatedOf, enqCodesDue, tooFewFree, enqGood, enqVerdict};
+ghost use Rattle.rules.specs.Deq.{unentered as unenteredOf, deqCodesDue, deqVerdict};
+ghost use Rattle.queue.specs.Queues.{entriesIn};
 
-// The caller has an entry for some of the names.
-fn some_entered(q: Queue, caller: TaskNumber, l: NameList) -> bool
-    requires { ⌜ (q .count ≤ mostEntries) × (l .count ≤ longestList) ⌝ }
-    ensures { λ r. ⌜ r ≡ some (λ (a : Ask). hasEntry (live q) (caller .0) (a .name)) (namesIn l .asks) ⌝ }
-{
-    let has = entered(q, caller, l);
-    some_set(has, l.count)
-}
-
-// The caller has an entry for every name.
-fn all_entered(q: Queue, caller: TaskNumber, l: NameList) -> bool
-    requires { ⌜ (q .count ≤ mostEntries) × (l .count ≤ longestList) ⌝ }
-    ensures { λ r. ⌜ r ≡ every (hasEntry (live q) (caller .0)) (namesOf (namesIn l)) ⌝ }
-{
-    let has = entered(q, caller, l);
-    all_set(has, l.count)
-}
-
-// 201, under NONE.
+// 201, under NONE: the caller has an entry for some of the names.
 fn duplicated(q: Queue, caller: TaskNumber, ret: Ret, l: NameList) -> bool
     requires { ⌜ (q .count ≤ mostEntries) × (l .count ≤ longestList) ⌝ }
-    ensures { λ r. ⌜ r ≡ duplicatedOf ret (live q) (caller .0) (namesIn l) ⌝ }
+    ensures { λ r. ⌜ r ≡ duplicatedOf ret (entriesIn q) (caller .0) (namesIn l) ⌝ }
 {
     match ret {
-        Ret::None => some_entered(q, caller, l),
+        Ret::None => some_set(entered(q, caller, l), l.count),
         Ret::Test => false,
         Ret::Use => false,
         Ret::Have => false,
@@ -60,13 +41,13 @@ fn duplicated(q: Queue, caller: TaskNumber, ret: Ret, l: NameList) -> bool
     }
 }
 
-// 202, under NONE.
+// 202, under NONE: it has none for some of them.
 fn unentered(q: Queue, caller: TaskNumber, ret: DeqRet, l: NameList) -> bool
     requires { ⌜ (q .count ≤ mostEntries) × (l .count ≤ longestList) ⌝ }
-    ensures { λ r. ⌜ r ≡ unenteredOf ret (live q) (caller .0) (namesIn l) ⌝ }
+    ensures { λ r. ⌜ r ≡ unenteredOf ret (entriesIn q) (caller .0) (namesIn l) ⌝ }
 {
     match ret {
-        DeqRet::None => !all_entered(q, caller, l),
+        DeqRet::None => !all_set(entered(q, caller, l), l.count),
         DeqRet::Have => false,
     }
 }
@@ -86,7 +67,7 @@ fn queues_all(ret: Ret) -> bool
 // 105. Where there is room for all names the codes need not be found.
 fn too_few_free(q: Queue, caller: TaskNumber, ret: Ret, l: NameList) -> bool
     requires { ⌜ (q .count ≤ mostEntries) × (l .count ≤ longestList) ⌝ }
-    ensures { λ r. ⌜ r ≡ tooFewFree ret (live q) (caller .0) (namesIn l) ⌝ }
+    ensures { λ r. ⌜ r ≡ tooFewFree ret (entriesIn q) (caller .0) (namesIn l) ⌝ }
 {
     let n = l.count as usize;
     if q.count + n <= Slot::PLACES {
@@ -99,19 +80,42 @@ fn too_few_free(q: Queue, caller: TaskNumber, ret: Ret, l: NameList) -> bool
     all_zero(k, l.count)
 }
 
-// ENQ: 101, 104, 201, 105. `room` is the codes area's length.
+// 101, ENQ. Only of a good list are the modes looked at.
+fn enq_good(ret: Ret, l: NameList) -> bool
+    ensures { λ r. ⌜ r ≡ enqGood ret (namesIn l) ⌝ }
+{
+    if !names_good(l) {
+        return false;
+    }
+    !asks_shared(ret, l)
+}
+
+// 104. `room` is the codes area's length.
+fn enq_short(ret: Ret, l: NameList, room: usize) -> bool
+    requires { ⌜ l .count ≤ longestList ⌝ }
+    ensures { λ r. ⌜ r ≡ (enqCodesDue ret && tooShort room (namesIn l)) ⌝ }
+{
+    let n = l.count as usize;
+    enq_codes_due(ret) & (room < n)
+}
+
+fn deq_short(ret: DeqRet, l: NameList, room: usize) -> bool
+    requires { ⌜ l .count ≤ longestList ⌝ }
+    ensures { λ r. ⌜ r ≡ (deqCodesDue ret && tooShort room (namesIn l)) ⌝ }
+{
+    let n = l.count as usize;
+    deq_codes_due(ret) & (room < n)
+}
+
+// ENQ: 101, 104, 201, 105.
 pub fn enq_verdict(q: Queue, caller: TaskNumber, ret: Ret, l: NameList, room: usize) -> Verdict
     requires { ⌜ q .count ≤ mostEntries ⌝ }
-    ensures { λ r. ⌜ ((area : List ℕ) → length area ≡ room → r ≡ enqVerdict (live q) caller ret (namesIn l) area) ⌝ }
+    ensures { λ r. ⌜ r ≡ enqVerdict (entriesIn q) caller ret (namesIn l) room ⌝ }
 {
-    if !names::list::names_good(l) {
+    if !enq_good(ret, l) {
         return Verdict::Refuse(Refusal::OutOfRange);
     }
-    if names::list::asks_shared(ret, l) {
-        return Verdict::Refuse(Refusal::OutOfRange);
-    }
-    let n = l.count as usize;
-    if enq_codes_due(ret) & (room < n) {
+    if enq_short(ret, l, room) {
         return Verdict::Refuse(Refusal::ShortCodes);
     }
     if duplicated(q, caller, ret, l) {
@@ -126,13 +130,12 @@ pub fn enq_verdict(q: Queue, caller: TaskNumber, ret: Ret, l: NameList, room: us
 // DEQ: 101, 104, 202.
 pub fn deq_verdict(q: Queue, caller: TaskNumber, ret: DeqRet, l: NameList, room: usize) -> Verdict
     requires { ⌜ q .count ≤ mostEntries ⌝ }
-    ensures { λ r. ⌜ ((area : List ℕ) → length area ≡ room → r ≡ deqVerdict (live q) caller ret (namesIn l) area) ⌝ }
+    ensures { λ r. ⌜ r ≡ deqVerdict (entriesIn q) caller ret (namesIn l) room ⌝ }
 {
-    if !names::list::names_good(l) {
+    if !names_good(l) {
         return Verdict::Refuse(Refusal::OutOfRange);
     }
-    let n = l.count as usize;
-    if deq_codes_due(ret) & (room < n) {
+    if deq_short(ret, l, room) {
         return Verdict::Refuse(Refusal::ShortCodes);
     }
     if unentered(q, caller, ret, l) {

@@ -1,16 +1,16 @@
--- DEMAND 3 of the code: whatever calls of `serve` and of the twelve services follow a `fresh` that was answered 0. Assumes nothing.
+-- DEMAND 3 of the code: whatever calls of `serve` and of the twelve services follow a `fresh` that was answered 0.
 use Prim.Native.Nat.{ℕ}
 use mathlib.Core.Path.{_≡_, refl, sym, ap, _∙_, subst}
 use mathlib.Core.Bool.{Bool, true, false}
 use mathlib.Core.List.{List, [], _∷_}
 use Rattle.lists.specs.Pick.{pick}
-use Rattle.kinds.specs.Replies.{numberOf, besidesOf}
+use Rattle.kinds.specs.Replies.{numberOf, Besides, valueOf, besidesIn}
 use Rattle.kinds.specs.declared.replies.Reply.the-variants.{Done}
 use Rattle.rules.specs.Steps.{Step, Outcome, Served, keptBy, untouched}
 use Rattle.rules.specs.Fresh.{freshOf}
 use Rattle.rules.specs.Serve.{Asked, serviceOf, serveOf}
 use Rattle.rules.specs.Reading.{Turn}
-use Rattle.rules.specs.Demand.{Run, stop as ends, serve, turnOf, Fresh, Demand3}
+use Rattle.rules.specs.DemandThree.{Run, stop as ends, turn, turnOf, Fresh, Demand3}
 use Rattle.laws.specs.Served.{sound-served}
 use Rattle.history.proofs.Demand.{demand-three}
 use Rattle.services.specs.Kept.{stepOf, tablesOf, said, saidWith, servedBy, soundb, answered, answeredWith}
@@ -22,21 +22,25 @@ use Rattle.services.proofs.Leaves.{step-tables, fresh-leaves-sound}
 use Rattle.services.proofs.Serves.{sound-serves, serve-leaves-sound}
 use Rattle.services.proofs.Tables.fresh.Reads as fresh
 use Rattle.calls.specs.Called.{Called}
-use Rattle.calls.specs.Calls.{Call, served, attached, detached, ended, abended, enqueued, dequeued, waited, posted, cleared, got, freed, dispatched, seenOf, Calls, stop, call}
+use Rattle.calls.specs.Calls.{Call, served, attached, detached, ended, abended, enqueued, dequeued, waited}
+use Rattle.calls.specs.Calls.{posted, cleared, got, freed, dispatched, seenOf, Calls, stop, call}
 
 -- THE CONTRACTS: what is promised of a call, in the words of the rules
 
 -- a service with no codes area, as one that is lent an area of no bytes and leaves it
-kept-or-refused : (b : Bool) (x y : Outcome Tables) → untouched [] (pick b x y) ≡ pick b (untouched [] x) (untouched [] y)
+kept-or-refused : (b : Bool) (x y : Outcome Tables)
+    → untouched [] (pick b x y) ≡ pick b (untouched [] x) (untouched [] y)
 unfolding pick
 kept-or-refused true x y = refl
 kept-or-refused false x y = refl
 
-uncoded : (t : Tables) (f : Step → Outcome Step) (r : Answer) → said r ≡ answered t f → saidWith r [] ≡ answeredWith t [] (λ s area. untouched area (f s))
+uncoded : (t : Tables) (f : Step → Outcome Step) (r : Answer) → said r ≡ answered t f
+    → saidWith r [] ≡ answeredWith t [] (λ s area. untouched area (f s))
 unfolding answered answeredWith
 uncoded t f r e = ap (untouched []) e ∙ kept-or-refused (soundb t) _ _
 
-pub promises : {t : Tables} {a : Asked} {r : Answer} {codes : List ℕ} → Call t a r codes → saidWith r codes ≡ servedOf t a
+pub promises : {t : Tables} {a : Asked} {r : Answer} {codes : List ℕ} → Call t a r codes
+    → saidWith r codes ≡ servedOf t a
 unfolding servedOf serviceOf
 promises (served c) = c .meets
 promises (attached c) = uncoded _ _ (c .result) (c .meets)
@@ -52,11 +56,13 @@ promises (got c) = uncoded _ _ (c .result) (c .meets)
 promises (freed c) = uncoded _ _ (c .result) (c .meets)
 promises (dispatched c) = uncoded _ _ (c .result) (c .meets)
 
-pub fresh-promises : (c : Called fresh.Post) → said (c .result) ≡ keptBy tablesOf (freshOf (c .given .0) (c .given .1 .0))
+pub fresh-promises : (c : Called fresh.Post)
+    → said (c .result) ≡ keptBy tablesOf (freshOf (c .given .0) (c .given .1 .0))
 fresh-promises c = c .meets
 
 -- on sound tables a call does to the step what the rules' `serveOf` does
-module _ (t : Tables) (a : Asked) (r : Answer) (codes : List ℕ) (h : soundb t ≡ true) (e : saidWith r codes ≡ servedOf t a) where
+module _ (t : Tables) (a : Asked) (r : Answer) (codes : List ℕ) (h : soundb t ≡ true)
+    (e : saidWith r codes ≡ servedOf t a) where
   abbrev outcome : Outcome Step
   outcome = serveOf (stepOf t) a .outcome
 
@@ -69,8 +75,8 @@ module _ (t : Tables) (a : Asked) (r : Answer) (codes : List ℕ) (h : soundb t 
   seen : turnOf a outcome ≡ seenOf a r
   seen = ap (λ (o : Served Tables). turnAt (o .outcome .number) (o .outcome .besides)) (sym as-ruled)
     where
-      turnAt : ℕ → ℕ → Turn
-      turnAt n v = record { request = a .request; names = a .names; number = n; besides = v }
+      turnAt : ℕ → Besides → Turn
+      turnAt n b = record { request = a .request; names = a .names; number = n; besides = valueOf b }
 
   sound-after : soundb (r .tables) ≡ true
   sound-after = ap (λ (o : Served Tables). soundb (o .outcome .tables)) e ∙ serve-leaves-sound t a h
@@ -81,10 +87,11 @@ calls-run stop h = ends
 calls-run (call {t} {u} {us} {a} {r} {codes} c k) h =
     let e = promises c in
     subst (λ (x : Turn). Run (stepOf t) (x ∷ us) (stepOf u)) (seen t a r codes h e)
-    (serve a (subst (λ (s : Step). Run s us (stepOf u)) (leaves t a r codes h e) (calls-run k (sound-after t a r codes h e))))
+    (turn a (subst (λ (s : Step). Run s us (stepOf u)) (leaves t a r codes h e)
+    (calls-run k (sound-after t a r codes h e))))
 
 -- DEMAND 3
-module _ (f : Called fresh.Post) (z : f .result .reply ≡ Done 0) where
+module _ (f : Called fresh.Post) (z : f .result .reply ≡ Done) where
   abbrev begun : Outcome Step
   begun = freshOf (f .given .0) (f .given .1 .0)
 
@@ -94,7 +101,7 @@ module _ (f : Called fresh.Post) (z : f .result .reply ≡ Done 0) where
     dispatching = f .given .1 .0;
     starts = λ i. record {
       number = (sym (ap (λ (o : Outcome Tables). o .number) (fresh-promises f)) ∙ ap numberOf z) i;
-      besides = (sym (ap (λ (o : Outcome Tables). o .besides) (fresh-promises f)) ∙ ap besidesOf z) i;
+      besides = (sym (ap (λ (o : Outcome Tables). o .besides) (fresh-promises f)) ∙ ap besidesIn z) i;
       tables = sym (ap (λ (o : Outcome Tables). stepOf (o .tables)) (fresh-promises f) ∙ step-tables (begun .tables)) i;
     };
   }
@@ -102,4 +109,5 @@ module _ (f : Called fresh.Post) (z : f .result .reply ≡ Done 0) where
   pub calls-demand-three : {t : Tables} {us : List Turn} → Calls (f .result .tables) us t → Demand3 us (stepOf t)
   calls-demand-three {t} {us} k =
       demand-three (stepOf (f .result .tables)) (stepOf t) us begins
-      (calls-run k (ap (λ (o : Outcome Tables). soundb (o .tables)) (fresh-promises f) ∙ fresh-leaves-sound (f .given .0) (f .given .1 .0)))
+      (calls-run k (ap (λ (o : Outcome Tables). soundb (o .tables)) (fresh-promises f)
+      ∙ fresh-leaves-sound (f .given .0) (f .given .1 .0)))

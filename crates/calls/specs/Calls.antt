@@ -1,11 +1,12 @@
--- CALLS of `serve` and of the twelve services themselves, one after the other, each on the tables that the one before it gave. A call is
--- whatever the function's own contract lets happen, and nothing else. Assumes nothing.
+-- CALLS of `serve` and of the twelve services themselves, one after the other, each on the tables that the one before
+-- it gave. A call is whatever the function's own contract lets happen, and nothing else.
 use Prim.Native.Nat.{ℕ}
 use mathlib.Core.List.{List, [], _∷_}
 use denote.Ref.{now}
 use Rattle.kinds.specs.Replies.{numberOf, besidesOf}
 use Rattle.kinds.specs.declared.requests.Request.{Request}
-use Rattle.kinds.specs.declared.requests.Request.the-variants.{Attach, Detach, End, Abend, Enq, Deq, Wait, Post, Clear, Getmain, Freemain, Dispatch}
+use Rattle.kinds.specs.declared.requests.Request.the-variants.{Attach, Detach, End, Abend, Enq, Deq, Wait, Post, Clear}
+use Rattle.kinds.specs.declared.requests.Request.the-variants.{Getmain, Freemain, Dispatch}
 use Rattle.names.specs.Named.{namesIn}
 use Rattle.events.specs.Blocks.{ecbsIn}
 use Rattle.rules.specs.Names.{Names}
@@ -57,32 +58,45 @@ pub data Call : Tables → Asked → Answer → List ℕ → Type 0 where
       })
       (c .result) (now (c .exits .1 .1 .1 .1 .0))
   attached : (c : Called attach.Post) → Call (c .given .0)
-      (alone (Attach (c .given .1 .0) (c .given .1 .1 .0) (c .given .1 .1 .1 .0) (c .given .1 .1 .1 .1 .0))) (c .result) []
-  detached : (c : Called detach.Post) → Call (c .given .0) (alone (Detach (c .given .1 .0) (c .given .1 .1 .0))) (c .result) []
+      (alone (Attach (c .given .1 .0) (c .given .1 .1 .0) (c .given .1 .1 .1 .0) (c .given .1 .1 .1 .1 .0)))
+      (c .result) []
+  detached : (c : Called detach.Post)
+      → Call (c .given .0) (alone (Detach (c .given .1 .0) (c .given .1 .1 .0))) (c .result) []
   ended : (c : Called end.Post) → Call (c .given .0) (alone (End (c .given .1 .0) (c .given .1 .1 .0))) (c .result) []
   abended : (c : Called abend.Post) → Call (c .given .0)
       (alone (Abend (c .given .1 .0) (c .given .1 .1 .0) (c .given .1 .1 .1 .0))) (c .result) []
   enqueued : (c : Called enq.Post) → Call (c .given .0)
-      (naming (Enq (c .given .1 .0) (c .given .1 .1 .0)) (namesIn (c .given .1 .1 .1 .0)) (now (c .given .1 .1 .1 .1 .0)))
+      (naming (Enq (c .given .1 .0) (c .given .1 .1 .0)) (namesIn (c .given .1 .1 .1 .0))
+      (now (c .given .1 .1 .1 .1 .0)))
       (c .result) (now (c .exits .1 .1 .1 .1 .0))
   dequeued : (c : Called deq.Post) → Call (c .given .0)
-      (naming (Deq (c .given .1 .0) (c .given .1 .1 .0)) (namesIn (c .given .1 .1 .1 .0)) (now (c .given .1 .1 .1 .1 .0)))
+      (naming (Deq (c .given .1 .0) (c .given .1 .1 .0)) (namesIn (c .given .1 .1 .1 .0))
+      (now (c .given .1 .1 .1 .1 .0)))
       (c .result) (now (c .exits .1 .1 .1 .1 .0))
   waited : (c : Called wait.Post) → Call (c .given .0)
       (listing (Wait (c .given .1 .0) (c .given .1 .1 .1 .0)) (ecbsIn (c .given .1 .1 .0))) (c .result) []
   posted : (c : Called post.Post) → Call (c .given .0)
       (alone (Post (c .given .1 .0) (c .given .1 .1 .0) (c .given .1 .1 .1 .0))) (c .result) []
-  cleared : (c : Called clear.Post) → Call (c .given .0) (alone (Clear (c .given .1 .0) (c .given .1 .1 .0))) (c .result) []
+  cleared : (c : Called clear.Post)
+      → Call (c .given .0) (alone (Clear (c .given .1 .0) (c .given .1 .1 .0))) (c .result) []
   got : (c : Called getmain.Post) → Call (c .given .0)
-      (alone (Getmain (c .given .1 .0) (c .given .1 .1 .0) (c .given .1 .1 .1 .0) (c .given .1 .1 .1 .1 .0))) (c .result) []
+      (alone (Getmain (c .given .1 .0) (c .given .1 .1 .0) (c .given .1 .1 .1 .0) (c .given .1 .1 .1 .1 .0)))
+      (c .result) []
   freed : (c : Called freemain.Post) → Call (c .given .0)
-      (alone (Freemain (c .given .1 .0) (c .given .1 .1 .0) (c .given .1 .1 .1 .0) (c .given .1 .1 .1 .1 .0))) (c .result) []
+      (alone (Freemain (c .given .1 .0) (c .given .1 .1 .0) (c .given .1 .1 .1 .0) (c .given .1 .1 .1 .1 .0)))
+      (c .result) []
   dispatched : (c : Called dispatch.Post) → Call (c .given .0) (alone Dispatch) (c .result) []
 
 -- what an onlooker sees of it
 abbrev pub seenOf : Asked → Answer → Turn
-seenOf a r = record { request = a .request; names = a .names; number = numberOf (r .reply); besides = besidesOf (r .reply) }
+seenOf a r = record {
+  request = a .request;
+  names = a .names;
+  number = numberOf (r .reply);
+  besides = besidesOf (r .reply);
+}
 
 pub data Calls : Tables → List Turn → Tables → Type 0 where
   stop : {t : Tables} → Calls t [] t
-  call : {t u : Tables} {us : List Turn} {a : Asked} {r : Answer} {codes : List ℕ} → Call t a r codes → Calls (r .tables) us u → Calls t (seenOf a r ∷ us) u
+  call : {t u : Tables} {us : List Turn} {a : Asked} {r : Answer} {codes : List ℕ} → Call t a r codes
+      → Calls (r .tables) us u → Calls t (seenOf a r ∷ us) u

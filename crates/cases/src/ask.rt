@@ -1,28 +1,35 @@
 // One request: through `serve`, with what stands beside it.
 use crate::show;
+use kinds::Address;
+use kinds::EcbChecked;
 use kinds::EcbList;
 use kinds::EcbNumber;
+use kinds::MaybeAddress;
 use kinds::Name;
 use kinds::NameList;
 use kinds::Request;
+use kinds::TaskChecked;
+use kinds::TaskNumber;
 use kinds::Wanted;
 use services::Tables;
 ghost use mathlib.Core.Path.{_≡_};
-ghost use mathlib.Core.List.{[], _∷_};
-ghost use Rattle.names.specs.Named.{namesIn};
-ghost use Rattle.events.specs.Blocks.{ecbsIn};
-ghost use Rattle.services.specs.Serve.{servedOf};
+ghost use Rattle.cases.specs.Asked.{nextTables};
+
+// The codes area of each request, and what each byte of it is before.
+pub(crate) const CODES: usize = 4;
+
+pub(crate) const UNWRITTEN: u8 = 0xee;
 
 // A fresh step whose first task has the priorities 200 and 150.
 pub(crate) fn fresh(text: &[u8]) -> Tables {
     let start = Tables::fresh(200, 150);
     let reply = start.reply;
-    let untouched = [238u8; 4];
-    show::answer(text, reply, &untouched);
+    let codes = [UNWRITTEN; CODES];
+    show::answer(text, reply, &codes);
     start.tables
 }
 
-// The answer is told, and its tables come back for the next request. The codes area is of four bytes, each hex ee.
+// The answer is told, and its tables come back for the next request.
 pub(crate) fn beside(
     text: &[u8],
     t: Tables,
@@ -30,9 +37,9 @@ pub(crate) fn beside(
     names: NameList,
     ecbs: EcbList,
 ) -> Tables
-    ensures { λ r. ⌜ r ≡ servedOf t (record { request = request; names = namesIn names; ecbs = ecbsIn ecbs; area = 238 ∷ 238 ∷ 238 ∷ 238 ∷ [] }) .outcome .tables ⌝ }
+    ensures { λ r. ⌜ r ≡ nextTables t request names ecbs ⌝ }
 {
-    let mut codes = [238u8; 4];
+    let mut codes = [UNWRITTEN; CODES];
     let answer = t.serve(request, names, ecbs, &mut codes);
     let reply = answer.reply;
     let next = answer.tables;
@@ -62,7 +69,7 @@ fn no_names() -> NameList {
 }
 
 fn no_ecbs() -> EcbList {
-    let n = EcbNumber(0);
+    let n = ecb(0);
     EcbList {
         count: 0,
         ecbs: [n; NameList::MOST],
@@ -87,5 +94,28 @@ pub(crate) fn name(first: u8, second: u8, length: u16) -> Name {
         major: [88u8; Name::MAJOR],
         minor,
         length,
+    }
+}
+
+// The kinds of a case's numbers. One that is out of range stays so: what asks for it is refused, by 101, and the output
+// is held to what the case says.
+pub(crate) fn task(n: u32) -> TaskNumber {
+    match TaskNumber::new(n) {
+        TaskChecked::GoodTask(task) => task,
+        TaskChecked::BadTask => TaskNumber(TaskNumber::HIGHEST + 1),
+    }
+}
+
+pub(crate) fn ecb(n: u32) -> EcbNumber {
+    match EcbNumber::new(n) {
+        EcbChecked::GoodEcb(ecb) => ecb,
+        EcbChecked::BadEcb => EcbNumber(EcbNumber::HIGHEST + 1),
+    }
+}
+
+pub(crate) fn address(n: u32) -> Address {
+    match Address::new(n) {
+        MaybeAddress::At(address) => address,
+        MaybeAddress::Nowhere => Address(Address::HIGHEST + 1),
     }
 }

@@ -5,7 +5,6 @@ use kinds::DeqRet;
 use kinds::MaybeEcb;
 use kinds::Request;
 use kinds::Ret;
-use kinds::TaskNumber;
 use services::Tables;
 
 fn attach(text: &[u8], t: Tables) -> Tables {
@@ -13,7 +12,7 @@ fn attach(text: &[u8], t: Tables) -> Tables {
         text,
         t,
         Request::Attach {
-            caller: TaskNumber(1),
+            caller: ask::task(1),
             lpmod: 0,
             dpmod: 0,
             ecb: MaybeEcb::NoEcb,
@@ -21,8 +20,8 @@ fn attach(text: &[u8], t: Tables) -> Tables {
     )
 }
 
-fn enq(text: &[u8], t: Tables, n: u8, ret: Ret, exclusive: bool) -> Tables {
-    let caller = TaskNumber(n);
+fn enq(text: &[u8], t: Tables, n: u32, ret: Ret, exclusive: bool) -> Tables {
+    let caller = ask::task(n);
     ask::naming(
         text,
         t,
@@ -31,8 +30,8 @@ fn enq(text: &[u8], t: Tables, n: u8, ret: Ret, exclusive: bool) -> Tables {
     )
 }
 
-fn deq(text: &[u8], t: Tables, n: u8) -> Tables {
-    let caller = TaskNumber(n);
+fn deq(text: &[u8], t: Tables, n: u32) -> Tables {
+    let caller = ask::task(n);
     let ret = DeqRet::None;
     ask::naming(
         text,
@@ -86,8 +85,8 @@ pub(crate) fn case_3(t: Tables) {
 
 // 4, from 1: without C, whose mother detaches it, D owns too.
 pub(crate) fn case_4(t: Tables) {
-    let caller = TaskNumber(1);
-    let task = TaskNumber(4);
+    let caller = ask::task(1);
+    let task = ask::task(4);
     let r = ask::plainly(b"4: task 1 detaches C", t, Request::Detach { caller, task });
     told(b"4", r);
 }

@@ -1,8 +1,10 @@
 // Lines that tell an answer or a part of the tables. Each begins with the text that it is given.
+use crate::ask;
+use crate::ask::CODES;
+use crate::ask::UNWRITTEN;
 use events::Events;
 use family::Family;
 use kinds::Area;
-use kinds::EcbNumber;
 use kinds::Reply;
 use kinds::Slot;
 use kinds::TaskNumber;
@@ -21,21 +23,21 @@ fn words(text: &[u8]) {
 }
 
 // The number, what goes besides and, where a byte was written, the codes area.
-pub(crate) fn answer(text: &[u8], reply: Reply, codes: &[u8; 4]) {
+pub(crate) fn answer(text: &[u8], reply: Reply, codes: &[u8; CODES]) {
     words(text);
     words(b": ");
     number(reply.number() as u64);
     words(b" ");
     number(reply.besides() as u64);
-    let first = codes[0] != 238 || codes[1] != 238;
-    let last = codes[2] != 238 || codes[3] != 238;
+    let first = codes[0] != UNWRITTEN || codes[1] != UNWRITTEN;
+    let last = codes[2] != UNWRITTEN || codes[3] != UNWRITTEN;
     if first || last {
         codes_area(codes);
     }
     words(b"\n");
 }
 
-fn codes_area(codes: &[u8; 4]) {
+fn codes_area(codes: &[u8; CODES]) {
     words(b" codes=");
     byte(codes[0]);
     byte(codes[1]);
@@ -101,7 +103,7 @@ pub(crate) fn entry_count(text: &[u8], q: Queue) {
 pub(crate) fn waiting(text: &[u8], f: Family) {
     words(text);
     words(b": tasks in a wait:");
-    let mut n: u8 = TaskNumber::LOWEST;
+    let mut n = TaskNumber::LOWEST;
     while n <= TaskNumber::HIGHEST {
         waiter(f, n);
         n += 1;
@@ -110,7 +112,7 @@ pub(crate) fn waiting(text: &[u8], f: Family) {
 }
 
 fn waiter(f: Family, n: u8) {
-    let task = family::at(f, TaskNumber(n));
+    let task = family::at(f, ask::task(n as u32));
     let condition = task.condition;
     if condition.waits() {
         words(b" ");
@@ -162,8 +164,8 @@ pub(crate) fn ecbs(text: &[u8], e: Events) {
     words(b"\n");
 }
 
-fn word(e: Events, n: u8) {
-    let x = events::at(e, EcbNumber(n));
+fn word(e: Events, n: u32) {
+    let x = events::at(e, ask::ecb(n));
     words(b" ");
     io::print_hex(1, events::word(x), 8);
 }

@@ -3,7 +3,6 @@ use crate::ask;
 use crate::show;
 use kinds::Address;
 use kinds::Request;
-use kinds::TaskNumber;
 use services::Tables;
 
 fn getmain(text: &[u8], t: Tables, length: u32, subpool: u8, conditional: bool) -> Tables {
@@ -11,7 +10,7 @@ fn getmain(text: &[u8], t: Tables, length: u32, subpool: u8, conditional: bool) 
         text,
         t,
         Request::Getmain {
-            caller: TaskNumber(1),
+            caller: ask::task(1),
             length,
             subpool,
             conditional,
@@ -24,7 +23,7 @@ fn freemain(text: &[u8], t: Tables, address: Address, length: u32, subpool: u8) 
         text,
         t,
         Request::Freemain {
-            caller: TaskNumber(1),
+            caller: ask::task(1),
             address,
             length,
             subpool,
@@ -48,7 +47,7 @@ pub(crate) fn case_8(t: Tables) {
     let freed = freemain(
         b"8: 100 bytes at 0, subpool 10, are freed",
         t,
-        Address(0),
+        ask::address(0),
         100,
         10,
     );
@@ -59,7 +58,13 @@ pub(crate) fn case_8(t: Tables) {
 // 9: the whole region, and then no room.
 pub(crate) fn case_9() {
     let t = ask::fresh(b"9: fresh step, 200/150");
-    let all = getmain(b"9: 131,072 bytes of subpool 3", t, 131072, 3, false);
+    let all = getmain(
+        b"9: 131,072 bytes of subpool 3",
+        t,
+        Address::REGION,
+        3,
+        false,
+    );
     let four = getmain(b"9: 8 bytes, conditional", all, 8, 3, true);
     show::areas(b"9", four.storage);
     show::step(b"9", four);

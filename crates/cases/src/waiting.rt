@@ -6,11 +6,10 @@ use kinds::EcbNumber;
 use kinds::MaybeEcb;
 use kinds::NameList;
 use kinds::Request;
-use kinds::TaskNumber;
 use services::Tables;
 
 fn post(text: &[u8], t: Tables, ecb: EcbNumber, code: u32) -> Tables {
-    let caller = TaskNumber(1);
+    let caller = ask::task(1);
     ask::plainly(text, t, Request::Post { caller, ecb, code })
 }
 
@@ -20,7 +19,7 @@ fn with_waiter() -> Tables {
         b"10: task 1 attaches a waiter",
         t,
         Request::Attach {
-            caller: TaskNumber(1),
+            caller: ask::task(1),
             lpmod: 0,
             dpmod: 0,
             ecb: MaybeEcb::NoEcb,
@@ -30,10 +29,10 @@ fn with_waiter() -> Tables {
 
 // ECBs 1, 2 and 3.
 fn three() -> EcbList {
-    let first = EcbNumber(1);
+    let first = ask::ecb(1);
     let mut ecbs = [first; NameList::MOST];
-    ecbs[1] = EcbNumber(2);
-    ecbs[2] = EcbNumber(3);
+    ecbs[1] = ask::ecb(2);
+    ecbs[2] = ask::ecb(3);
     EcbList { count: 3, ecbs }
 }
 
@@ -45,8 +44,8 @@ fn told(t: Tables) {
 // 10: one post is enough for who waits for two of three with one complete, and leaves no wait bit.
 pub(crate) fn case_10() {
     let t = with_waiter();
-    let one = post(b"10: POST of ECB 1, code 7", t, EcbNumber(1), 7);
-    let caller = TaskNumber(2);
+    let one = post(b"10: POST of ECB 1, code 7", t, ask::ecb(1), 7);
+    let caller = ask::task(2);
     let waits = ask::waiting(
         b"10: WAIT for 2 of ECBs 1, 2, 3",
         one,
@@ -54,6 +53,6 @@ pub(crate) fn case_10() {
         three(),
     );
     told(waits);
-    let woken = post(b"10: POST of ECB 3, code 9", waits, EcbNumber(3), 9);
+    let woken = post(b"10: POST of ECB 3, code 9", waits, ask::ecb(3), 9);
     told(woken);
 }

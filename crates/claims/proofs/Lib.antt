@@ -1,4 +1,3 @@
 pub mod Coding
 pub mod Changes
-pub mod Verdicts
 pub mod Promises

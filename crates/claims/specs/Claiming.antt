@@ -1,51 +1,45 @@
--- What ENQ and DEQ make of the queue and the tasks. Assumes nothing.
+-- What ENQ and DEQ make of the queue and the tasks.
 use mathlib.Core.Path.{_≡_}
-use mathlib.Core.Bool.{Bool, true, false}
+use mathlib.Core.Bool.{Bool, true, false, _&&_}
 use mathlib.Core.List.{List, map}
 use Prim.Native.Nat.{ℕ}
+use lib.ListN.{length}
 use Rattle.lists.specs.Pick.{pick}
-use Rattle.kinds.specs.declared.areas.Area.{Area}
-use Rattle.kinds.specs.declared.ecbs.Ecb.{Ecb}
 use Rattle.kinds.specs.declared.numbers.TaskNumber.{TaskNumber}
 use Rattle.kinds.specs.declared.replies.Gate.the-variants.{Open}
 use Rattle.kinds.specs.declared.replies.Reply.{Reply}
 use Rattle.kinds.specs.declared.replies.Reply.the-variants.{Done, Four}
 use Rattle.kinds.specs.declared.replies.Verdict.{Verdict}
+use Rattle.kinds.specs.declared.replies.Verdict.the-variants.{Go}
 use Rattle.kinds.specs.declared.requests.DeqRet.{DeqRet}
 use Rattle.kinds.specs.declared.requests.Ret.{Ret}
 use Rattle.kinds.specs.declared.requests.Ret.the-variants.{None, Test, Use, Have, Chng}
 use Rattle.kinds.specs.declared.tasks.Task.{Task}
 use Rattle.rules.specs.Names.{Names, namesOf, namesGood}
 use Rattle.rules.specs.Control.{Entry}
-use Rattle.rules.specs.Codes.{allZero}
-use Rattle.rules.specs.Steps.{Step}
-use Rattle.rules.specs.Waits.{waitsBy}
-use Rattle.rules.specs.Admission.{gateOf, onGo}
-use Rattle.rules.specs.Deq.{deqCodes, released}
-use Rattle.rules.specs.Enq.{enqCodes, tooFewFree, withTail, madeExclusive}
+use Rattle.rules.specs.Codes.{allZero, writtenOn, tooShort}
+use Rattle.rules.specs.Steps.{Step, withTasks, withQueue}
+use Rattle.rules.specs.ResourceWaits.{waitsBy}
+use Rattle.rules.specs.Admission.{gateOf, onGo, codesThrough}
+use Rattle.rules.specs.Deq.{deqCodes, deqVerdict, released, deqWritten}
+use Rattle.rules.specs.Enq.{enqCodes, tooFewFree, enqVerdict, withTail, madeExclusive, enqWritten}
 use Rattle.laws.specs.Running.{Running}
 use Rattle.family.specs.Families.{familyOf}
 use Rattle.family.specs.declared.Family.{Family}
-use Rattle.queue.specs.Queues.{live, stored}
+use Rattle.queue.specs.Queues.{entriesIn, storedEntries, PackedEntries}
 use Rattle.queue.specs.declared.Queue.{Queue}
 use Rattle.claims.specs.declared.Claims.{Claims}
 use Rattle.claims.specs.declared.Claimed.{Claimed}
 
--- the rest of a step whose queue and tasks are these
-pub record Rest : Type 0 where
-  pub over : Bool
-  pub code : ℕ
-  pub ecbs : List Ecb
-  pub areas : List Area
-
-abbrev pub stepWith : List Entry → List Task → Rest → Step
-stepWith q ts r = record { over = r .over; code = r .code; tasks = ts; queue = q; ecbs = r .ecbs; areas = r .areas }
-
 -- a sound step that runs has this queue and these tasks, and task c is admitted
 pub record Admits (q : List Entry) (ts : List Task) (c : TaskNumber) : Type 0 where
-  pub rest : Rest
-  pub running : Running (stepWith q ts rest)
-  pub gate : gateOf (stepWith q ts rest) c ≡ Open
+  pub rest : Step
+  pub running : Running (withQueue (withTasks rest ts) q)
+  pub gate : gateOf (withQueue (withTasks rest ts) q) c ≡ Open
+
+-- the queue is packed, and the caller is admitted
+abbrev pub CallerAdmitted : Queue → Family → TaskNumber → Type 0
+CallerAdmitted q f c = PackedEntries q × Admits (entriesIn q) (f .places) c
 
 -- an ENQ that goes on and whose codes are all 0
 pub record Unhindered (ret : Ret) (q : List Entry) (c : ℕ) (l : Names) : Type 0 where
@@ -55,32 +49,72 @@ pub record Unhindered (ret : Ret) (q : List Entry) (c : ℕ) (l : Names) : Type 
 
 -- the queue, and every resource wait what control says
 abbrev pub requeuedTo : List Entry → List Task → Claims
-requeuedTo l ts = record { queue = stored l; family = familyOf (waitsBy l ts) }
+requeuedTo l ts = record { queue = storedEntries l; family = familyOf (waitsBy l ts) }
 
 -- "answer 0 if every code is 0, else 4"
 abbrev pub replyTo : Bool → Reply
-replyTo true = Done 0
+replyTo true = Done
 replyTo false = Four
 
+-- what changes neither of the two tables
+abbrev pub sameTables : Queue → Family → Claims
+sameTables q f = record { queue = q; family = f }
+
+-- the column "then", where every code is 0
 abbrev pub enqChanged : Ret → Queue → Family → ℕ → Names → Claims
-enqChanged None q f c l = requeuedTo (withTail (live q) c l) (f .places)
-enqChanged Test q f c l = record { queue = q; family = f }
-enqChanged Use q f c l = requeuedTo (withTail (live q) c l) (f .places)
-enqChanged Have q f c l = requeuedTo (withTail (live q) c l) (f .places)
-enqChanged Chng q f c l = requeuedTo (map (madeExclusive c (namesOf l)) (live q)) (f .places)
+enqChanged None q f c l = requeuedTo (withTail (entriesIn q) c l) (f .places)
+enqChanged Test q f c l = sameTables q f
+enqChanged Use q f c l = requeuedTo (withTail (entriesIn q) c l) (f .places)
+enqChanged Have q f c l = requeuedTo (withTail (entriesIn q) c l) (f .places)
+enqChanged Chng q f c l = requeuedTo (map (madeExclusive c (namesOf l)) (entriesIn q)) (f .places)
+
+-- "only if every code is 0"
+abbrev pub enqTables : Bool → Ret → Queue → Family → ℕ → Names → Claims
+enqTables zero ret q f c l = pick zero (enqChanged ret q f c l) (sameTables q f)
 
 -- ENQ's verdict, its reply and the two tables
 abbrev pub enqBy : Verdict → Ret → Queue → Family → ℕ → Names → Claimed
 enqBy v ret q f c l = record {
   verdict = v;
-  reply = onGo v (replyTo (allZero (enqCodes ret (live q) c l))) (Done 0);
-  tables = onGo v (pick (allZero (enqCodes ret (live q) c l)) (enqChanged ret q f c l) (record { queue = q; family = f })) (record { queue = q; family = f });
+  reply = onGo v (replyTo (allZero (enqCodes ret (entriesIn q) c l))) Done;
+  tables = onGo v (enqTables (allZero (enqCodes ret (entriesIn q) c l)) ret q f c l) (sameTables q f);
 }
 
 -- DEQ's
 abbrev pub deqBy : Verdict → DeqRet → Queue → Family → ℕ → Names → Claimed
 deqBy v ret q f c l = record {
   verdict = v;
-  reply = onGo v (replyTo (allZero (deqCodes ret (live q) c l))) (Done 0);
-  tables = onGo v (requeuedTo (released c (namesOf l) (live q)) (f .places)) (record { queue = q; family = f });
+  reply = onGo v (replyTo (allZero (deqCodes ret (entriesIn q) c l))) Done;
+  tables = onGo v (requeuedTo (released c (namesOf l) (entriesIn q)) (f .places)) (sameTables q f);
 }
+
+-- the codes at the front of an area, if they are due
+abbrev pub writtenIf : Bool → List ℕ → List ℕ → List ℕ
+writtenIf due codes area = pick due (writtenOn codes area) area
+
+-- where codes are due, the codes area has room for them
+abbrev pub CodesFit : Bool → ℕ → Names → Type 0
+CodesFit due room l = (due && tooShort room l) ≡ false
+
+-- ENQ's tests go on, with this codes area
+abbrev pub EnqGoes : Queue → TaskNumber → Ret → Names → List ℕ → Type 0
+EnqGoes q c ret l area = enqVerdict (entriesIn q) c ret l (length area) ≡ Go
+
+abbrev pub DeqGoes : Queue → TaskNumber → DeqRet → Names → List ℕ → Type 0
+DeqGoes q c ret l area = deqVerdict (entriesIn q) c ret l (length area) ≡ Go
+
+-- by the verdict of its tests: what ENQ makes of the tables, and what the codes area then holds
+abbrev pub enqClaimed : Queue → Family → TaskNumber → Ret → Names → List ℕ → Claimed
+enqClaimed q f c ret l area = enqBy (enqVerdict (entriesIn q) c ret l (length area)) ret q f (c .0) l
+
+abbrev pub enqLeaves : Queue → TaskNumber → Ret → Names → List ℕ → List ℕ
+enqLeaves q c ret l area =
+    codesThrough Open (enqVerdict (entriesIn q) c ret l (length area)) area (enqWritten (entriesIn q) c ret l area)
+
+-- and DEQ
+abbrev pub deqClaimed : Queue → Family → TaskNumber → DeqRet → Names → List ℕ → Claimed
+deqClaimed q f c ret l area = deqBy (deqVerdict (entriesIn q) c ret l (length area)) ret q f (c .0) l
+
+abbrev pub deqLeaves : Queue → TaskNumber → DeqRet → Names → List ℕ → List ℕ
+deqLeaves q c ret l area =
+    codesThrough Open (deqVerdict (entriesIn q) c ret l (length area)) area (deqWritten (entriesIn q) c ret l area)

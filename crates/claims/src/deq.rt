@@ -12,21 +12,23 @@ use kinds::Verdict;
 use queue::Queue;
 ghost use mathlib.Core.Path.{_≡_};
 ghost use Prim.Native.Nat.{_≤_};
+ghost use lib.ListN.{length};
 ghost use Rattle.kinds.specs.Limits.{mostEntries, longestList};
-ghost use Rattle.kinds.specs.declared.replies.Gate.the-variants.{Open};
 ghost use Rattle.kinds.specs.declared.replies.Verdict.the-variants.{Go};
 ghost use Rattle.names.specs.Named.{namesIn};
 ghost use Rattle.rules.specs.Names.{namesOf};
 ghost use Rattle.rules.specs.Codes.{allZero};
-ghost use Rattle.rules.specs.Admission.{codesThrough};
-ghost use Rattle.rules.specs.Deq.{released as releasedOf, deqCodes, deqVerdict, deqWritten};
-ghost use Rattle.queue.specs.Queues.{live, Packed};
-ghost use Rattle.claims.specs.Claiming.{Admits, requeuedTo, deqBy};
+ghost use Rattle.rules.specs.Deq.{released as releasedOf, deqCodes, deqCodesDue, deqWritten};
+ghost use Rattle.queue.specs.Queues.{entriesIn};
+ghost use Rattle.claims.specs.Claiming.{CallerAdmitted, requeuedTo, CodesFit};
+ghost use Rattle.claims.specs.Claiming.{deqBy, DeqGoes, deqClaimed, deqLeaves};
 
 // A code for each name, of the queue as it is, written where codes are due; says whether all are 0.
 fn write_codes(q: Queue, caller: TaskNumber, ret: DeqRet, names: NameList, codes: &mut [u8]) -> bool
-    requires { ⌜ (q .count ≤ mostEntries) × (deqVerdict (live q) caller ret (namesIn names) (now codes) ≡ Go) ⌝ }
-    ensures { λ r. ⌜ (r ≡ allZero (deqCodes ret (live q) (caller .0) (namesIn names))) × (now (codes .exit) ≡ deqWritten (live q) caller ret (namesIn names) (now (codes .entry))) ⌝ }
+    requires { ⌜ (q .count ≤ mostEntries) × (names .count ≤ longestList) ⌝ }
+    requires { ⌜ CodesFit (deqCodesDue ret) (length (now codes)) (namesIn names) ⌝ }
+    ensures { λ r. ⌜ r ≡ allZero (deqCodes ret (entriesIn q) (caller .0) (namesIn names)) ⌝ }
+    ensures { λ _. ⌜ now (codes .exit) ≡ deqWritten (entriesIn q) caller ret (namesIn names) (now (codes .entry)) ⌝ }
 {
     let k = asks::codes::deq_codes(q, caller, ret, names);
     let due = asks::codes::deq_codes_due(ret);
@@ -36,8 +38,8 @@ fn write_codes(q: Queue, caller: TaskNumber, ret: DeqRet, names: NameList, codes
 
 // The caller's entries for these names go, and whoever waited for them only is ready.
 fn released(q: Queue, f: Family, caller: TaskNumber, names: NameList) -> Claims
-    requires { ⌜ (Packed q × Admits (live q) (f .places) caller) × (names .count ≤ longestList) ⌝ }
-    ensures { λ r. ⌜ r ≡ requeuedTo (releasedOf (caller .0) (namesOf (namesIn names)) (live q)) (f .places) ⌝ }
+    requires { ⌜ CallerAdmitted q f caller × (names .count ≤ longestList) ⌝ }
+    ensures { λ r. ⌜ r ≡ requeuedTo (releasedOf (caller .0) (namesOf (namesIn names)) (entriesIn q)) (f .places) ⌝ }
 {
     let entries = entries::deq::release(q, caller, names);
     let tasks = locks::waking::wake(entries, f);
@@ -56,8 +58,9 @@ fn goes_on(
     names: NameList,
     codes: &mut [u8],
 ) -> Claimed
-    requires { ⌜ (Packed q × Admits (live q) (f .places) caller) × (deqVerdict (live q) caller ret (namesIn names) (now codes) ≡ Go) ⌝ }
-    ensures { λ r. ⌜ (r ≡ deqBy Go ret q f (caller .0) (namesIn names)) × (now (codes .exit) ≡ deqWritten (live q) caller ret (namesIn names) (now (codes .entry))) ⌝ }
+    requires { ⌜ CallerAdmitted q f caller × DeqGoes q caller ret (namesIn names) (now codes) ⌝ }
+    ensures { λ r. ⌜ r ≡ deqBy Go ret q f (caller .0) (namesIn names) ⌝ }
+    ensures { λ _. ⌜ now (codes .exit) ≡ deqWritten (entriesIn q) caller ret (namesIn names) (now (codes .entry)) ⌝ }
 {
     let zero = write_codes(q, caller, ret, names, codes);
     let l = released(q, f, caller, names);
@@ -78,8 +81,9 @@ pub fn given_up(
     names: NameList,
     codes: &mut [u8],
 ) -> Claimed
-    requires { ⌜ Packed q × Admits (live q) (f .places) caller ⌝ }
-    ensures { λ r. ⌜ (r ≡ deqBy (deqVerdict (live q) caller ret (namesIn names) (now (codes .entry))) ret q f (caller .0) (namesIn names)) × (now (codes .exit) ≡ codesThrough Open (deqVerdict (live q) caller ret (namesIn names) (now (codes .entry))) (now (codes .entry)) (deqWritten (live q) caller ret (namesIn names) (now (codes .entry)))) ⌝ }
+    requires { ⌜ CallerAdmitted q f caller ⌝ }
+    ensures { λ r. ⌜ r ≡ deqClaimed q f caller ret (namesIn names) (now (codes .entry)) ⌝ }
+    ensures { λ _. ⌜ now (codes .exit) ≡ deqLeaves q caller ret (namesIn names) (now (codes .entry)) ⌝ }
 {
     let room = codes.len();
     match asks::verdict::deq_verdict(q, caller, ret, names, room) {

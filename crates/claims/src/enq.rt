@@ -13,26 +13,27 @@ use kinds::Verdict;
 use queue::Queue;
 ghost use mathlib.Core.Path.{_≡_};
 ghost use mathlib.Core.Bool.{true};
-ghost use mathlib.Core.List.{map};
 ghost use Prim.Native.Nat.{_+_, _≤_};
 ghost use lib.ListN.{length};
 ghost use Rattle.lists.specs.Lists.{every};
 ghost use Rattle.kinds.specs.Limits.{mostEntries, longestList};
-ghost use Rattle.kinds.specs.declared.replies.Gate.the-variants.{Open};
 ghost use Rattle.kinds.specs.declared.replies.Verdict.the-variants.{Go};
+ghost use Rattle.kinds.specs.declared.requests.Ret.the-variants.{Chng};
 ghost use Rattle.names.specs.Named.{namesIn};
 ghost use Rattle.rules.specs.Names.{namesOf, namesGood};
 ghost use Rattle.rules.specs.Control.{available, soleOwner};
 ghost use Rattle.rules.specs.Codes.{allZero};
-ghost use Rattle.rules.specs.Admission.{codesThrough};
-ghost use Rattle.rules.specs.Enq.{withTail, madeExclusive, enqCodes, enqVerdict, enqWritten};
-ghost use Rattle.queue.specs.Queues.{live, Packed};
-ghost use Rattle.claims.specs.Claiming.{Admits, Unhindered, requeuedTo, enqChanged, enqBy};
+ghost use Rattle.rules.specs.Enq.{enqCodes, enqCodesDue, withTail, enqWritten};
+ghost use Rattle.queue.specs.Queues.{entriesIn};
+ghost use Rattle.claims.specs.Claiming.{CallerAdmitted, Unhindered, requeuedTo, CodesFit};
+ghost use Rattle.claims.specs.Claiming.{enqChanged, enqBy, EnqGoes, enqClaimed, enqLeaves};
 
 // A code for each name, of the queue as it is, written where codes are due; says whether all are 0.
 fn write_codes(q: Queue, caller: TaskNumber, ret: Ret, names: NameList, codes: &mut [u8]) -> bool
-    requires { ⌜ (q .count ≤ mostEntries) × (enqVerdict (live q) caller ret (namesIn names) (now codes) ≡ Go) ⌝ }
-    ensures { λ r. ⌜ (r ≡ allZero (enqCodes ret (live q) (caller .0) (namesIn names))) × (now (codes .exit) ≡ enqWritten (live q) caller ret (namesIn names) (now (codes .entry))) ⌝ }
+    requires { ⌜ (q .count ≤ mostEntries) × (names .count ≤ longestList) ⌝ }
+    requires { ⌜ CodesFit (enqCodesDue ret) (length (now codes)) (namesIn names) ⌝ }
+    ensures { λ r. ⌜ r ≡ allZero (enqCodes ret (entriesIn q) (caller .0) (namesIn names)) ⌝ }
+    ensures { λ _. ⌜ now (codes .exit) ≡ enqWritten (entriesIn q) caller ret (namesIn names) (now (codes .entry)) ⌝ }
 {
     let k = asks::codes::enq_codes(q, caller, ret, names);
     let due = asks::codes::enq_codes_due(ret);
@@ -43,7 +44,7 @@ fn write_codes(q: Queue, caller: TaskNumber, ret: Ret, names: NameList, codes: &
 // A request for each of the names would have control at once.
 fn all_available(q: Queue, names: NameList) -> bool
     requires { ⌜ (q .count ≤ mostEntries) × (names .count ≤ longestList) ⌝ }
-    ensures { λ r. ⌜ r ≡ every (available (live q)) (namesIn names .asks) ⌝ }
+    ensures { λ r. ⌜ r ≡ every (available (entriesIn q)) (namesIn names .asks) ⌝ }
 {
     let free = flags::available(q, names);
     flags::all_set(free, names.count)
@@ -51,8 +52,10 @@ fn all_available(q: Queue, names: NameList) -> bool
 
 // The new entries stand at the tail; unless every name was available the caller waits.
 fn queued(q: Queue, f: Family, caller: TaskNumber, names: NameList) -> Claims
-    requires { ⌜ (Packed q × Admits (live q) (f .places) caller) × ((namesGood (namesIn names) ≡ true) × (length (live q) + length (namesIn names .asks) ≤ mostEntries)) ⌝ }
-    ensures { λ r. ⌜ r ≡ requeuedTo (withTail (live q) (caller .0) (namesIn names)) (f .places) ⌝ }
+    requires { ⌜ CallerAdmitted q f caller ⌝ }
+    requires { ⌜ namesGood (namesIn names) ≡ true ⌝ }
+    requires { ⌜ length (entriesIn q) + length (namesIn names .asks) ≤ mostEntries ⌝ }
+    ensures { λ r. ⌜ r ≡ requeuedTo (withTail (entriesIn q) (caller .0) (namesIn names)) (f .places) ⌝ }
 {
     let entries = entries::enq::with_tail(q, caller, names);
     if all_available(q, names) {
@@ -72,8 +75,10 @@ fn queued(q: Queue, f: Family, caller: TaskNumber, names: NameList) -> Claims
 
 // The caller, who alone owns these names, has them exclusive: nobody's control changes, and so no task.
 fn made_exclusive(q: Queue, f: Family, caller: TaskNumber, names: NameList) -> Claims
-    requires { ⌜ (Packed q × Admits (live q) (f .places) caller) × ((names .count ≤ longestList) × (every (soleOwner (live q) (caller .0)) (namesOf (namesIn names)) ≡ true)) ⌝ }
-    ensures { λ r. ⌜ r ≡ requeuedTo (map (madeExclusive (caller .0) (namesOf (namesIn names))) (live q)) (f .places) ⌝ }
+    requires { ⌜ CallerAdmitted q f caller ⌝ }
+    requires { ⌜ names .count ≤ longestList ⌝ }
+    requires { ⌜ every (soleOwner (entriesIn q) (caller .0)) (namesOf (namesIn names)) ≡ true ⌝ }
+    ensures { λ r. ⌜ r ≡ enqChanged Chng q f (caller .0) (namesIn names) ⌝ }
 {
     let changed = entries::enq::made_exclusive(q, caller, names);
     Claims {
@@ -84,7 +89,7 @@ fn made_exclusive(q: Queue, f: Family, caller: TaskNumber, names: NameList) -> C
 
 // What each RET kind does where every code is 0.
 fn change(q: Queue, f: Family, caller: TaskNumber, ret: Ret, names: NameList) -> Claims
-    requires { ⌜ (Packed q × Admits (live q) (f .places) caller) × Unhindered ret (live q) (caller .0) (namesIn names) ⌝ }
+    requires { ⌜ CallerAdmitted q f caller × Unhindered ret (entriesIn q) (caller .0) (namesIn names) ⌝ }
     ensures { λ r. ⌜ r ≡ enqChanged ret q f (caller .0) (namesIn names) ⌝ }
 {
     match ret {
@@ -108,8 +113,9 @@ fn goes_on(
     names: NameList,
     codes: &mut [u8],
 ) -> Claimed
-    requires { ⌜ (Packed q × Admits (live q) (f .places) caller) × (enqVerdict (live q) caller ret (namesIn names) (now codes) ≡ Go) ⌝ }
-    ensures { λ r. ⌜ (r ≡ enqBy Go ret q f (caller .0) (namesIn names)) × (now (codes .exit) ≡ enqWritten (live q) caller ret (namesIn names) (now (codes .entry))) ⌝ }
+    requires { ⌜ CallerAdmitted q f caller × EnqGoes q caller ret (namesIn names) (now codes) ⌝ }
+    ensures { λ r. ⌜ r ≡ enqBy Go ret q f (caller .0) (namesIn names) ⌝ }
+    ensures { λ _. ⌜ now (codes .exit) ≡ enqWritten (entriesIn q) caller ret (namesIn names) (now (codes .entry)) ⌝ }
 {
     if !write_codes(q, caller, ret, names, codes) {
         let same = Claims {
@@ -125,7 +131,7 @@ fn goes_on(
     let l = change(q, f, caller, ret, names);
     Claimed {
         verdict: Verdict::Go,
-        reply: Reply::Done(0),
+        reply: Reply::Done,
         tables: l,
     }
 }
@@ -139,8 +145,9 @@ pub fn claimed(
     names: NameList,
     codes: &mut [u8],
 ) -> Claimed
-    requires { ⌜ Packed q × Admits (live q) (f .places) caller ⌝ }
-    ensures { λ r. ⌜ (r ≡ enqBy (enqVerdict (live q) caller ret (namesIn names) (now (codes .entry))) ret q f (caller .0) (namesIn names)) × (now (codes .exit) ≡ codesThrough Open (enqVerdict (live q) caller ret (namesIn names) (now (codes .entry))) (now (codes .entry)) (enqWritten (live q) caller ret (namesIn names) (now (codes .entry)))) ⌝ }
+    requires { ⌜ CallerAdmitted q f caller ⌝ }
+    ensures { λ r. ⌜ r ≡ enqClaimed q f caller ret (namesIn names) (now (codes .entry)) ⌝ }
+    ensures { λ _. ⌜ now (codes .exit) ≡ enqLeaves q caller ret (namesIn names) (now (codes .entry)) ⌝ }
 {
     let room = codes.len();
     match asks::verdict::enq_verdict(q, caller, ret, names, room) {

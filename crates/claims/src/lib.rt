@@ -11,11 +11,9 @@ ghost use mathlib.Core.Path.{_≡_};
 ghost use mathlib.Core.Bool.{true};
 ghost use Prim.Native.Nat.{_≤_};
 ghost use lib.ListN.{length, take};
-ghost use Rattle.lists.specs.Pick.{pick};
 ghost use Rattle.kinds.specs.Limits.{longestList};
 ghost use Rattle.kinds.specs.declared.replies.Reply.the-variants.{Done};
-ghost use Rattle.rules.specs.Codes.{writtenOn};
-ghost use Rattle.claims.specs.Claiming.{replyTo};
+ghost use Rattle.claims.specs.Claiming.{sameTables, replyTo, writtenIf};
 
 // The two tables that ENQ and DEQ touch.
 pub struct Claims {
@@ -31,7 +29,7 @@ pub struct Claimed {
 }
 
 fn unchanged(verdict: Verdict, q: Queue, f: Family) -> Claimed
-    ensures { λ r. ⌜ r ≡ record { verdict = verdict; reply = Done 0; tables = record { queue = q; family = f } } ⌝ }
+    ensures { λ r. ⌜ r ≡ record { verdict = verdict; reply = Done; tables = sameTables q f } ⌝ }
 {
     let l = Claims {
         queue: q,
@@ -39,7 +37,7 @@ fn unchanged(verdict: Verdict, q: Queue, f: Family) -> Claimed
     };
     Claimed {
         verdict,
-        reply: Reply::Done(0),
+        reply: Reply::Done,
         tables: l,
     }
 }
@@ -49,7 +47,7 @@ fn reply_to(zero: bool) -> Reply
     ensures { λ r. ⌜ r ≡ replyTo zero ⌝ }
 {
     if zero {
-        return Reply::Done(0);
+        return Reply::Done;
     }
     Reply::Four
 }
@@ -57,7 +55,7 @@ fn reply_to(zero: bool) -> Reply
 // The first n codes go to the front of the area if codes are due, and else no byte changes.
 fn write_due(due: bool, k: Codes, n: u32, area: &mut [u8])
     requires { ⌜ (n ≤ longestList) × (due ≡ true → n ≤ length (now area)) ⌝ }
-    ensures { λ _. ⌜ now (area .exit) ≡ pick due (writtenOn (take n (k .bytes)) (now (area .entry))) (now (area .entry)) ⌝ }
+    ensures { λ _. ⌜ now (area .exit) ≡ writtenIf due (take n (k .bytes)) (now (area .entry)) ⌝ }
 {
     if !due {
         return;

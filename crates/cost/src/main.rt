@@ -1,20 +1,49 @@
-// What one sound test costs, beside one copy of the tables. The word after the program's name says what is repeated: it begins with c for
-// copies, else tests are made; each further letter is a factor of ten. `time target/bin/cost ssssss` against `.. cccccc` tells the multiple.
+// What one sound test costs, beside one copy of the tables. The word after the program's name says what is repeated: it
+// begins with c for copies, else tests are made; each further letter is a factor of ten. `time target/bin/cost ssssss`
+// against `.. cccccc` tells the multiple.
 use family::Family;
 use kinds::Address;
 use kinds::Area;
 use kinds::Condition;
+use kinds::MaybeAddress;
 use kinds::MaybeEcb;
 use kinds::Name;
 use kinds::Slot;
 use kinds::Task;
+use kinds::TaskChecked;
 use kinds::TaskNumber;
 use queue::Queue;
 use services::Tables;
 use storage::Storage;
 ghost use Prim.Native.Nat.{_≤_};
 
-// 32 tasks, daughters of task 1.
+// The longest word that is read, in letters.
+const LETTERS: usize = 8;
+
+// Of every task.
+const PRIORITY: u8 = Task::HIGHEST_PRIORITY as u8;
+
+// Of every minor part.
+const LENGTH: u16 = Name::LONGEST as u16;
+
+// The task of this number; where none has it, no task, which is 0. Where an entry has no task the tables are not sound,
+// and the hits that are written say so.
+fn task(n: u32) -> TaskNumber {
+    match TaskNumber::new(n) {
+        TaskChecked::GoodTask(task) => task,
+        TaskChecked::BadTask => TaskNumber(0),
+    }
+}
+
+// An address past the region stays past it: no area is sound there.
+fn address(n: u32) -> Address {
+    match Address::new(n) {
+        MaybeAddress::At(address) => address,
+        MaybeAddress::Nowhere => Address(Address::HIGHEST + 1),
+    }
+}
+
+// Every task place taken, by daughters of task 1.
 fn full_family() -> Family {
     let mut f = family::empty();
     let mut i: usize = 0;
@@ -22,9 +51,9 @@ fn full_family() -> Family {
         let mother = if i == 0 { 0 } else { 1 };
         let x = Task {
             condition: Condition::Ready,
-            mother: TaskNumber(mother),
-            limit: 255,
-            dispatching: 255,
+            mother: task(mother),
+            limit: PRIORITY,
+            dispatching: PRIORITY,
             ecb: MaybeEcb::NoEcb,
         };
         f.places[i] = x;
@@ -33,7 +62,8 @@ fn full_family() -> Family {
     f
 }
 
-// 128 exclusive entries, four of each task, whose names differ in the first byte of their major parts only, which is compared last.
+// Every place of the queue taken, by exclusive entries, four of each task, whose names differ in the first byte of
+// their major parts only, which is compared last.
 fn full_queue() -> Queue {
     let mut q = queue::empty();
     let mut i: usize = 0;
@@ -41,11 +71,11 @@ fn full_queue() -> Queue {
         let mut name = Name {
             major: [65u8; Name::MAJOR],
             minor: [66u8; Name::LONGEST],
-            length: 44,
+            length: LENGTH,
         };
         name.major[0] = i as u8;
         let x = Slot {
-            task: TaskNumber((i % 32 + 1) as u8),
+            task: task((i % TaskNumber::PLACES + 1) as u32),
             exclusive: true,
             name,
         };
@@ -56,16 +86,16 @@ fn full_queue() -> Queue {
     q
 }
 
-// 128 areas of the step.
+// Every area taken, each of the step, a doubleword long.
 fn full_storage() -> Storage {
     let mut s = storage::empty();
     let mut i: usize = 0;
     while i < Area::PLACES {
         let x = Area {
-            start: Address((i * 8) as u32),
-            size: 8,
+            start: address(i as u32 * Address::DOUBLEWORD),
+            size: Address::DOUBLEWORD,
             subpool: 0,
-            owner: TaskNumber(0),
+            owner: task(0),
         };
         s.areas[i] = x;
         i += 1;
@@ -140,7 +170,7 @@ fn rounds(letters: usize) -> u32 {
 }
 
 fn main() {
-    let mut word = [0u8; 8];
+    let mut word = [0u8; LETTERS];
     let n = os::arg(1, &mut word);
     let all = rounds(n);
     if word[0] == b'c' {

@@ -17,9 +17,10 @@ ghost use Rattle.kinds.specs.Limits.{highestEcb};
 ghost use Rattle.kinds.specs.Tasks.{isLive, withCondition};
 ghost use Rattle.kinds.specs.declared.tasks.Condition.the-variants.{Ended};
 ghost use Rattle.rules.specs.Steps.{overStep};
-ghost use Rattle.rules.specs.Ending.{endTasks, leftBy, ended as endedOf};
+ghost use Rattle.rules.specs.Events.{posted};
+ghost use Rattle.rules.specs.Ending.{ended as endedOf};
 ghost use Rattle.laws.specs.Running.{Running};
-ghost use Rattle.endings.specs.Wholes.{stepIn, wholeOf, Packed, Ends, postedIn};
+ghost use Rattle.endings.specs.Wholes.{stepIn, wholeOf, leftWith, Packed, Ends};
 
 // All of the tables of a step: an ending touches each of them.
 pub struct Whole {
@@ -49,10 +50,11 @@ pub fn over_with(code: u16) -> Whole
     }
 }
 
-// The one ending. Task n and all below it end: n's place becomes `last`, and what belonged to those who are live no more goes with them.
+// The one ending. Task n and all below it end: n's place becomes `last`, and what belonged to those who are live
+// no more goes with them.
 fn without(w: Whole, n: TaskNumber, last: Task) -> Whole
     requires { ⌜ Packed w × (Running (stepIn w) × (isLive (last .condition) ≡ false)) ⌝ }
-    ensures { λ r. ⌜ r ≡ wholeOf (leftBy (stepIn w) (endTasks (w .family .places) (n .0) last)) ⌝ }
+    ensures { λ r. ⌜ r ≡ wholeOf (leftWith w n last) ⌝ }
 {
     let all = w.family;
     let q = w.queue;
@@ -63,6 +65,7 @@ fn without(w: Whole, n: TaskNumber, last: Task) -> Whole
     let tasks = locks::waking::wake(entries, left);
     let blocks = signals::ending::sweep(e, left);
     let areas = holdings::sweep(s, left);
+    // All four change, so nothing of `w` is copied that would be written over.
     Whole {
         over: w.over,
         code: w.code,
@@ -73,30 +76,22 @@ fn without(w: Whole, n: TaskNumber, last: Task) -> Whole
     }
 }
 
-// With an ECB posted.
-fn posted(w: Whole, ecb: EcbNumber, code: u16) -> Whole
-    requires { ⌜ ecb .0 ≤ highestEcb ⌝ }
-    ensures { λ r. ⌜ r ≡ postedIn w (ecb .0) code ⌝ }
-{
-    let e = w.events;
-    let f = w.family;
-    let l = signals::post(e, f, ecb, code as u32);
-    let d = l.events;
-    let g = l.family;
-    let mut next = w;
-    next.events = d;
-    next.family = g;
-    next
-}
-
 // Task c, whose place is x, ends: the place is kept as ended, and the ECB that it was attached with is posted.
 fn kept_as_ended(w: Whole, c: TaskNumber, x: Task, ecb: EcbNumber, code: u16) -> Whole
     requires { ⌜ Packed w × (Running (stepIn w) × (ecb .0 ≤ highestEcb)) ⌝ }
-    ensures { λ r. ⌜ r ≡ postedIn (wholeOf (leftBy (stepIn w) (endTasks (w .family .places) (c .0) (withCondition x Ended)))) (ecb .0) code ⌝ }
+    ensures { λ r. ⌜ r ≡ wholeOf (posted (leftWith w c (withCondition x Ended)) (ecb .0) code) ⌝ }
 {
     let last = x.with_condition(Condition::Ended);
     let t = without(w, c, last);
-    posted(t, ecb, code)
+    let e = t.events;
+    let f = t.family;
+    let l = signals::post(e, f, ecb, code as u32);
+    let d = l.events;
+    let g = l.family;
+    let mut next = t;
+    next.events = d;
+    next.family = g;
+    next
 }
 
 // Task c ends with this code and all below it: its ECB, if it was attached with one, is posted, and no other.

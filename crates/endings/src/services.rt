@@ -7,7 +7,7 @@ use kinds::Verdict;
 ghost use mathlib.Core.Path.{_≡_};
 ghost use Rattle.lists.specs.Pick.{pick};
 ghost use Rattle.rules.specs.Steps.{overStep};
-ghost use Rattle.rules.specs.Ending.{detached as detachedOf, ended as endedOf};
+ghost use Rattle.rules.specs.Ending.{detached as detachedOf, ended};
 ghost use Rattle.rules.specs.Abend.{abendVerdict};
 ghost use Rattle.rules.specs.Detach.{detachVerdict};
 ghost use Rattle.rules.specs.End.{endVerdict};
@@ -44,7 +44,7 @@ pub fn detached(w: Whole, caller: TaskNumber, task: TaskNumber) -> Settled
 // END's tests; where they go on, the caller, which has no subtasks, ends.
 pub fn ended_by_end(w: Whole, caller: TaskNumber, code: u16) -> Settled
     requires { ⌜ Ends w caller ⌝ }
-    ensures { λ r. ⌜ r ≡ endedBy (endVerdict (w .family .places) caller code) (endedOf (stepIn w) (caller .0) code) w ⌝ }
+    ensures { λ r. ⌜ r ≡ endedBy (endVerdict (w .family .places) caller code) (ended (stepIn w) (caller .0) code) w ⌝ }
 {
     let f = w.family;
     match subtasks::verdicts::end_verdict(f, caller, code) {
@@ -60,7 +60,8 @@ pub fn ended_by_end(w: Whole, caller: TaskNumber, code: u16) -> Settled
 // ABEND's test; where it goes on, the caller ends and its subtasks with it, or with STEP the whole step.
 pub fn abended(w: Whole, caller: TaskNumber, code: u16, step: bool) -> Settled
     requires { ⌜ Ends w caller ⌝ }
-    ensures { λ r. ⌜ r ≡ endedBy (abendVerdict code) (pick step (overStep code) (endedOf (stepIn w) (caller .0) code)) w ⌝ }
+    ensures { λ r. ⌜ r ≡ endedBy (abendVerdict code)
+        (pick step (overStep code) (ended (stepIn w) (caller .0) code)) w ⌝ }
 {
     if !Task::code_good(code) {
         return settled_as(Verdict::Refuse(Refusal::OutOfRange), w);

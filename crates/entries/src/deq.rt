@@ -1,4 +1,5 @@
-// The change of the queue that DEQ makes. Entries are stored and names compared in place: a call would copy the queue or the list at each turn.
+// The change of the queue that DEQ makes.
+// Entries are stored and names compared in place: a call would copy the queue or the list at each turn.
 use kinds::NameList;
 use kinds::TaskNumber;
 use queue::Queue;
@@ -9,12 +10,12 @@ ghost use Rattle.kinds.specs.Limits.{longestList};
 ghost use Rattle.rules.specs.Names.{namesOf};
 ghost use Rattle.rules.specs.Deq.{released};
 ghost use Rattle.names.specs.Named.{namesIn};
-ghost use Rattle.queue.specs.Queues.{stored, live, Packed};
+ghost use Rattle.queue.specs.Queues.{storedEntries, entriesIn, PackedEntries};
 
 // The caller's entries for these names go.
 pub fn release(q: Queue, c: TaskNumber, l: NameList) -> Queue
-    requires { ⌜ Packed q × (l .count ≤ longestList) ⌝ }
-    ensures { λ r. ⌜ r ≡ stored (released (c .0) (namesOf (namesIn l)) (live q)) ⌝ }
+    requires { ⌜ PackedEntries q × (l .count ≤ longestList) ⌝ }
+    ensures { λ r. ⌜ r ≡ storedEntries (released (c .0) (namesOf (namesIn l)) (entriesIn q)) ⌝ }
 {
     let n = q.count;
     let k = l.count as usize;

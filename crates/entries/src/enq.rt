@@ -1,4 +1,5 @@
-// The changes of the queue that ENQ makes. Entries are stored and names compared in place: a call would copy the queue or the list at each turn.
+// The changes of the queue that ENQ makes.
+// Entries are stored and names compared in place: a call would copy the queue or the list at each turn.
 use kinds::NameList;
 use kinds::Slot;
 use kinds::TaskNumber;
@@ -12,12 +13,13 @@ ghost use Rattle.kinds.specs.Limits.{mostEntries, longestList};
 ghost use Rattle.rules.specs.Names.{legal, namesOf};
 ghost use Rattle.rules.specs.Enq.{withTail, madeExclusive};
 ghost use Rattle.names.specs.Named.{namesIn};
-ghost use Rattle.queue.specs.Queues.{stored, live, Packed};
+ghost use Rattle.queue.specs.Queues.{storedEntries, entriesIn, PackedEntries};
 
 // New entries go to the tail, in list order.
 pub fn with_tail(q: Queue, c: TaskNumber, l: NameList) -> Queue
-    requires { ⌜ Packed q × (l .count ≤ longestList) × (q .count + l .count ≤ mostEntries) × (every legal (namesOf (namesIn l)) ≡ true) ⌝ }
-    ensures { λ r. ⌜ r ≡ stored (withTail (live q) (c .0) (namesIn l)) ⌝ }
+    requires { ⌜ PackedEntries q × (l .count ≤ longestList) × (q .count + l .count ≤ mostEntries)
+        × (every legal (namesOf (namesIn l)) ≡ true) ⌝ }
+    ensures { λ r. ⌜ r ≡ storedEntries (withTail (entriesIn q) (c .0) (namesIn l)) ⌝ }
 {
     let n = l.count as usize;
     let mut r = q;
@@ -41,8 +43,8 @@ pub fn with_tail(q: Queue, c: TaskNumber, l: NameList) -> Queue
 
 // CHNG, in place: the caller's entries for these names become exclusive.
 pub fn made_exclusive(q: Queue, c: TaskNumber, l: NameList) -> Queue
-    requires { ⌜ Packed q × (l .count ≤ longestList) ⌝ }
-    ensures { λ r. ⌜ r ≡ stored (map (madeExclusive (c .0) (namesOf (namesIn l))) (live q)) ⌝ }
+    requires { ⌜ PackedEntries q × (l .count ≤ longestList) ⌝ }
+    ensures { λ r. ⌜ r ≡ storedEntries (map (madeExclusive (c .0) (namesOf (namesIn l))) (entriesIn q)) ⌝ }
 {
     let n = q.count;
     let k = l.count as usize;

@@ -1,4 +1,4 @@
--- The ECBs' struct and the list that it stands for; the tally of wait bits. Assumes nothing.
+-- The ECBs' struct and the list that it stands for; the tally of wait bits.
 use Prim.Native.Nat.{ℕ, _+_}
 use mathlib.Core.List.{List, map}
 use lib.ListN.{replicate, take}

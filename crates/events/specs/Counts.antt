@@ -1,4 +1,4 @@
--- Counting wait bits along a loop. Assumes nothing.
+-- Counting wait bits along a loop.
 use mathlib.Core.Path.{_≡_, refl, sym, ap, ap₂, _∙_}
 use mathlib.Core.Bool.{false}
 use mathlib.Core.List.{List, [], _∷_, _++_}
@@ -49,10 +49,11 @@ waits-on (suc k) n (suc w) p x h q =
     ∙ waits-on k (n + 1) w p x (le-of-suc-le-suc h) (q ∙ e))
 
 -- a loop that counts for k tasks, the first of which is 0: the ECB at place i is counted, or is none of theirs
-module _ (k : ℕ) (es : List Ecb) (i : ℕ) (d : Ecb) (l : List ℕ) (h : i < length es) (v : l ≡ tallyFrom k 0 (take i es)) where
+module _ (k : ℕ) (es : List Ecb) (i : ℕ) (d : Ecb) (l : List ℕ) (h : i < length es)
+    (v : l ≡ tallyFrom k 0 (take i es)) where
   pub counted-few : (w : ℕ) → w < k → getD l w 0 ≤ i
   counted-few w m =
-      let a : getD l w 0 ≡ howMany (waitedOnBy (0 + w)) (take i es) = ap (λ (r : List ℕ). getD r w 0) v ∙ waits-at k 0 w (take i es) m in
+      let a : getD l w 0 ≡ howMany (waitedOnBy (0 + w)) (take i es) = rw v (waits-at k 0 w (take i es) m) in
       let b = howMany-few (waitedOnBy (0 + w)) (take i es) in
       let z : length (take i es) ≡ i = length-take-le i es (omega arith) in
       omega arith
@@ -62,7 +63,8 @@ module _ (k : ℕ) (es : List Ecb) (i : ℕ) (d : Ecb) (l : List ℕ) (h : i < l
       let e : take i es ++ (getD es i d ∷ []) ≡ take (i + 1) es = rw (add-one) (sym (take-suc es i d h)) in
       ap (tallyFrom k 0) e
 
-  pub counted : (w : ℕ) → w < k → getD es i d .waiter .0 ≡ w → set l w (getD l w 0 + 1) ≡ tallyFrom k 0 (take (i + 1) es)
+  pub counted : (w : ℕ) → w < k → getD es i d .waiter .0 ≡ w
+      → set l w (getD l w 0 + 1) ≡ tallyFrom k 0 (take (i + 1) es)
   counted w m q =
       let z : getD es i d .waiter .0 ≡ 0 + w = omega (arith, q) in
       ap (λ (r : List ℕ). set r w (getD r w 0 + 1)) v
@@ -72,6 +74,5 @@ module _ (k : ℕ) (es : List Ecb) (i : ℕ) (d : Ecb) (l : List ℕ) (h : i < l
 
   pub not-counted : k ≤ getD es i d .waiter .0 → l ≡ tallyFrom k 0 (take (i + 1) es)
   not-counted q =
-      v
-      ∙ sym (waits-off k 0 (take i es) (getD es i d) (λ t a b. ne-eqb _ _ (λ (z : getD es i d .waiter .0 ≡ t). omega arith)))
-      ∙ one-more
+      let x = getD es i d in
+      v ∙ sym (waits-off k 0 (take i es) x (λ t a b. ne-eqb _ _ (λ (z : x .waiter .0 ≡ t). omega arith))) ∙ one-more

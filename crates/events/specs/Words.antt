@@ -1,4 +1,4 @@
--- How an ECB's word and its tests come out, test by test. Assumes nothing.
+-- How an ECB's word and its tests come out, test by test.
 use mathlib.Core.Path.{_≡_, refl, sym}
 use mathlib.Core.Bool.{Bool, true, false, not, _&&_, and-false}
 use Prim.Native.Nat.{ℕ, _+_, _*_}
@@ -17,18 +17,6 @@ zero-good code true e =
     let z : code ≡ 0 = eqb-true code 0 e in sym (le-leb code highestPostCode (omega arith))
 zero-good code false e = refl
 
-no-bit : (a c : ℕ) → a + c ≡ a + (0 + c)
-no-bit a c = omega arith
-
-no-bits : (c : ℕ) → c ≡ 0 + (0 + c)
-no-bits c = omega arith
-
-one-bit : (a c : ℕ) → a + c ≡ 0 + (a + c)
-one-bit a c = omega arith
-
-two-bits : (a b c : ℕ) → a + b + c ≡ a + (b + c)
-two-bits a b c = omega arith
-
 either-way : (a : Bool) → true ≡ not (not a && false)
 either-way true = refl
 either-way false = refl
@@ -36,19 +24,20 @@ either-way false = refl
 module _ (x : Ecb) where
   pub word-code : eqb (x .waiter .0) 0 ≡ true → x .complete ≡ false → x .code ≡ wordOf x
   unfolding wordOf
-  word-code w h = rw (w, h) (no-bits (x .code))
+  word-code w h = rw (w, h) (omega arith)
 
   pub word-complete : eqb (x .waiter .0) 0 ≡ true → x .complete ≡ true → (highestPostCode + 1) + x .code ≡ wordOf x
   unfolding wordOf
-  word-complete w h = rw (w, h) (one-bit (highestPostCode + 1) (x .code))
+  word-complete w h = rw (w, h) (omega arith)
 
   pub word-waited : eqb (x .waiter .0) 0 ≡ false → x .complete ≡ false → 2 * (highestPostCode + 1) + x .code ≡ wordOf x
   unfolding wordOf
-  word-waited w h = rw (w, h) (no-bit (2 * (highestPostCode + 1)) (x .code))
+  word-waited w h = rw (w, h) (omega arith)
 
-  pub word-both : eqb (x .waiter .0) 0 ≡ false → x .complete ≡ true → 2 * (highestPostCode + 1) + (highestPostCode + 1) + x .code ≡ wordOf x
+  pub word-both : eqb (x .waiter .0) 0 ≡ false → x .complete ≡ true
+      → 2 * (highestPostCode + 1) + (highestPostCode + 1) + x .code ≡ wordOf x
   unfolding wordOf
-  word-both w h = rw (w, h) (two-bits (2 * (highestPostCode + 1)) (highestPostCode + 1) (x .code))
+  word-both w h = rw (w, h) (omega arith)
 
   pub good-complete : x .complete ≡ true → eqb (x .waiter .0) 0 ≡ true → postCodeGood (x .code) ≡ ecbWordGood x
   unfolding ecbWordGood

@@ -1,13 +1,16 @@
--- A place x that was looked up, and following a chain of mothers by one step from it. Assumes nothing.
+-- A place x that was looked up, and following a chain of mothers by one step from it.
 use mathlib.Core.Path.{_≡_, refl, sym, ap, _∙_}
 use mathlib.Core.Bool.{Bool, true, false, not}
-use mathlib.Core.List.{List}
+use mathlib.Core.List.{List, map}
 use Prim.Native.Nat.{ℕ, zero, suc, _-_, _≤_, _<_}
 use native.Mathlib.Omega.{arith}
 use lib.Dec.{eqb}
-use Rattle.kinds.specs.Tasks.{isFree}
+use lib.ListN.{length, length-map}
+use Rattle.kinds.specs.Limits.{highestTask}
+use Rattle.kinds.specs.Tasks.{noTask, isFree}
 use Rattle.kinds.specs.declared.tasks.Task.{Task}
 use Rattle.rules.specs.Family.{place, used, mother, chain}
+use Rattle.laws.specs.Places.{place-past}
 use Rattle.laws.specs.Wiping.{inUse}
 use Rattle.laws.specs.Chains.{only}
 
@@ -23,7 +26,8 @@ module _ (ts : List Task) (c n : ℕ) (x : Task) (e : x ≡ place ts n) where
   chain-free zero u = refl
   chain-free (suc steps) u = rw (use-of ts n x e false (ap not u))
 
-  pub chain-found : (steps : ℕ) → 0 < steps → isFree (x .condition) ≡ false → eqb n c ≡ true → true ≡ chain steps ts (only c) n
+  pub chain-found : (steps : ℕ) → 0 < steps → isFree (x .condition) ≡ false → eqb n c ≡ true
+      → true ≡ chain steps ts (only c) n
   unfolding chain
   chain-found zero h u t = absurd (omega arith)
   chain-found (suc steps) h u t = rw (use-of ts n x e true (ap not u), t)
@@ -34,7 +38,17 @@ module _ (ts : List Task) (c n : ℕ) (x : Task) (e : x ≡ place ts n) where
   chain-next zero h u t = absurd (omega arith)
   chain-next (suc steps) h u t =
       let k : suc steps - 1 ≡ steps = omega arith in
-      ap (λ (m : ℕ). chain m ts (only c) (x .mother .0)) k ∙ ap (λ (y : Task). chain steps ts (only c) (y .mother .0)) e ∙ sym (rw (use-of ts n x e true (ap not u), t))
+      ap (λ (m : ℕ). chain m ts (only c) (x .mother .0)) k
+      ∙ ap (λ (y : Task). chain steps ts (only c) (y .mother .0)) e
+      ∙ sym (rw (use-of ts n x e true (ap not u), t))
+
+-- a number that has no place
+pub place-over : {B : Type 0} (f : Task → B) (ts : List Task) (n : ℕ) → length (map f ts) ≡ highestTask
+    → highestTask < n → place ts n ≡ noTask
+place-over f ts n e h = place-past ts n (omega (arith, length-map ts f))
+
+pub chain-none : (ts : List Task) (c n steps : ℕ) → place ts n ≡ noTask → false ≡ chain steps ts (only c) n
+chain-none ts c n steps e = chain-free ts c n noTask (sym e) steps refl
 
 pub chain-done : (steps : ℕ) (ts : List Task) (test : ℕ → Bool) (n : ℕ) → steps ≤ 0 → false ≡ chain steps ts test n
 unfolding chain

@@ -1,4 +1,4 @@
--- That no ready task exceeds x says that x reaches the highest dispatching priority. Assumes nothing.
+-- That no ready task exceeds x says that x reaches the highest dispatching priority.
 use mathlib.Core.Path.{_≡_, refl, sym, ap, _∙_}
 use mathlib.Core.Bool.{Bool, true, false, not, _&&_, _||_, and-true, and-assoc}
 use mathlib.Core.List.{List, [], _∷_}
@@ -36,19 +36,21 @@ raised-leb : (h : ℕ) (x y : Task) → leb (raisedTo h y) (x .dispatching) ≡ 
 unfolding raisedTo
 raised-leb h x y = raised h (y .dispatching) (x .dispatching) (isReady (y .condition))
 
-pub none-better : (x : Task) (h : ℕ) (ts : List Task) → leb (highest h ts) (x .dispatching) ≡ (leb h (x .dispatching) && every (noBetter x) ts)
+none-better : (x : Task) (h : ℕ) (ts : List Task)
+    → leb (highest h ts) (x .dispatching) ≡ (leb h (x .dispatching) && every (noBetter x) ts)
 none-better x h [] = sym (and-true (leb h (x .dispatching)))
 none-better x h (y ∷ ts) =
     none-better x (raisedTo h y) ts
     ∙ ap (λ (b : Bool). b && every (noBetter x) ts) (raised-leb h x y)
     ∙ and-assoc (leb h (x .dispatching)) (noBetter x y) (every (noBetter x) ts)
 
-pub none-exceeds : (x : Task) (ts : List Task) → every (noBetter x) ts ≡ leb (highest 0 ts) (x .dispatching)
+none-exceeds : (x : Task) (ts : List Task) → every (noBetter x) ts ≡ leb (highest 0 ts) (x .dispatching)
 none-exceeds x ts = sym (none-better x 0 ts ∙ rw (le-leb 0 (x .dispatching) (omega arith)))
 
 -- the first pass: what the rest gives
-pub highest-step : (h : ℕ) (ts : List Task) (i : ℕ) → i < length ts → highest h (drop i ts) ≡ highest (raisedTo h (getD ts i noTask)) (drop (i + 1) ts)
-highest-step h ts i k = ap (highest h) (drop-cons ts i noTask k) ∙ rw (add-one i)
+pub highest-step : (h r : ℕ) (ts : List Task) (i : ℕ) → i < length ts → r ≡ raisedTo h (getD ts i noTask)
+    → highest h (drop i ts) ≡ highest r (drop (i + 1) ts)
+highest-step h r ts i k e = ap (highest h) (drop-cons ts i noTask k) ∙ rw (e, add-one i)
 
 pub highest-end : (h : ℕ) (ts : List Task) (i : ℕ) → length ts ≤ i → highest h (drop i ts) ≡ h
 highest-end h ts i k = ap (highest h) (drop-of-length-le ts k)
@@ -57,9 +59,5 @@ highest-end h ts i k = ap (highest h) (drop-of-length-le ts k)
 pub two-passes : (ts : List Task) (h : ℕ) → h ≡ highest 0 ts → dispatched ts ≡ firstAt (reaching h) 1 ts
 unfolding dispatched
 two-passes ts h e =
-    firstAt-same
-    (λ (x : Task). isReady (x .condition) && every (noBetter x) ts)
-    (reaching h)
-    (λ x. ap (λ (b : Bool). isReady (x .condition) && b) (none-exceeds x ts ∙ ap (λ (k : ℕ). leb k (x .dispatching)) (sym e)))
-    1
-    ts
+    firstAt-same (λ (x : Task). isReady (x .condition) && every (noBetter x) ts) (reaching h)
+    (λ x. rw e (ap (λ (b : Bool). isReady (x .condition) && b) (none-exceeds x ts))) 1 ts

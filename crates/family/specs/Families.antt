@@ -1,4 +1,4 @@
--- The task table's struct and the list that it stands for. Assumes nothing.
+-- The task table's struct and the list that it stands for.
 use mathlib.Core.List.{List}
 use lib.ListN.{replicate}
 use Rattle.kinds.specs.Limits.{highestTask}

@@ -1,4 +1,4 @@
--- The highest dispatching priority of the ready tasks, as a pass over the places finds it. Assumes nothing.
+-- The highest dispatching priority of the ready tasks, as a pass over the places finds it.
 use Prim.Native.Nat.{ℕ}
 use mathlib.Core.Bool.{Bool, _&&_}
 use mathlib.Core.List.{List, [], _∷_}

@@ -1,4 +1,4 @@
--- How the loops over the names beside a request fill a table, a place for each name. Assumes nothing.
+-- How the loops over the names beside a request fill a table, a place for each name.
 use mathlib.Core.Path.{_≡_, refl, sym, ap, _∙_}
 use mathlib.Core.List.{List, map}
 use Prim.Native.Nat.{ℕ, _+_, _<_}
@@ -21,7 +21,8 @@ module _ {A B : Type 0} (z : B) (f : A → B) (xs : List A) where
   unfolding padded
   none-filled = record { long = length-replicate longestList z; full = refl }
 
-  pub filled-next : (i : ℕ) (d : A) (r : List B) (b : B) → i < longestList → i < length xs → f (getD xs i d) ≡ b → Filled z f xs i r → Filled z f xs (i + 1) (set r i b)
+  pub filled-next : (i : ℕ) (d : A) (r : List B) (b : B) → i < longestList → i < length xs → f (getD xs i d) ≡ b
+      → Filled z f xs i r → Filled z f xs (i + 1) (set r i b)
   filled-next i d r b h k e v = record {
     long = length-set r i b ∙ v .long;
     full = fill-next f longestList z xs i d r b k h (v .full) (sym e);
@@ -31,7 +32,9 @@ module _ {A B : Type 0} (z : B) (f : A → B) (xs : List A) where
   filled-all i n r e v = v .full ∙ ap (λ (k : ℕ). padded longestList z (map f (take k xs))) e
 
 -- the same from what a request asks for
-pub ask-next : {B : Type 0} (z : B) (f : Ask → B) (ws : List Wanted) (i : ℕ) (d : Wanted) (r : List B) (b : B) → i < longestList → length ws ≡ longestList
-    → f (askOf (getD ws i d)) ≡ b → Filled z f (map askOf ws) i r → Filled z f (map askOf ws) (i + 1) (set r i b)
+pub ask-next : {B : Type 0} (z : B) (f : Ask → B) (ws : List Wanted) (i : ℕ) (d : Wanted) (r : List B) (b : B)
+    → i < longestList → length ws ≡ longestList → f (askOf (getD ws i d)) ≡ b
+    → Filled z f (map askOf ws) i r → Filled z f (map askOf ws) (i + 1) (set r i b)
 ask-next z f ws i d r b h k e v =
-    filled-next z f (map askOf ws) i (askOf d) r b h (omega (arith, length-map ws askOf)) (ap f (List·getD-map askOf ws i d) ∙ e) v
+    filled-next z f (map askOf ws) i (askOf d) r b h (omega (arith, length-map ws askOf))
+    (ap f (List·getD-map askOf ws i d) ∙ e) v

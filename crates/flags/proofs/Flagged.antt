@@ -1,4 +1,4 @@
--- The flags of the names beside a request, and the searches that find them. Assumes nothing.
+-- The flags of the names beside a request, and the searches that find them.
 use mathlib.Core.Path.{_≡_, refl, sym, ap, _∙_}
 use mathlib.Core.Bool.{Bool, true, false, not, _&&_, _||_, and-true, false≢true}
 use mathlib.Core.List.{List, map}
@@ -7,7 +7,8 @@ use native.Mathlib.Omega.{arith}
 use lib.Dec.{ltb}
 use lib.ListN.{length, getD, take, length-map, List·getD-map}
 use lib.Seq.{slice, slice-empty, length-take-le}
-use borrow.Author.Tests.{ltb-false}
+use borrow.Author.Tests.{ltb-true, ltb-false}
+use Rattle.lists.specs.Bools.{and-left, and-right}
 use Rattle.lists.specs.Lists.{every, some}
 use Rattle.lists.specs.Tables.{padded, padded-take}
 use Rattle.lists.specs.Every.{slice-view, every-of, some-of}
@@ -28,23 +29,35 @@ use Rattle.flags.specs.declared.Flags.{Flags}
 pub asks-length : (l : NameList) → l .count ≤ length (l .names) → length (namesIn l .asks) ≡ l .count
 asks-length l h = length-take-le (l .count) (map askOf (l .names)) (rw (length-map (l .names) askOf) h)
 
-pub flags-are : (f : Ask → Bool) (l : NameList) (i : ℕ) (r : Flags) → i ≡ l .count → Filled false f (map askOf (l .names)) i (r .of) → r ≡ flagsOf f (namesIn l)
+pub flags-are : (f : Ask → Bool) (l : NameList) (i : ℕ) (r : Flags) → i ≡ l .count
+    → Filled false f (map askOf (l .names)) i (r .of) → r ≡ flagsOf f (namesIn l)
 unfolding flagsOf
-flags-are f l i r e v = let s = filled-all false f (map askOf (l .names)) i (l .count) (r .of) e v in λ j. record { of = s j }
+flags-are f l i r e v = λ j. record { of = filled-all false f (map askOf (l .names)) i (l .count) (r .of) e v j }
 
 -- the flag of one name
-pub flag-at : (f : Ask → Bool) (l : NameList) (r : Flags) (i : ℕ) (d : Wanted) (e : Bool) → r ≡ flagsOf f (namesIn l) → i < l .count → l .count ≤ length (l .names)
-    → getD (r .of) i e ≡ f (askOf (getD (l .names) i d))
+pub flag-at : (f : Ask → Bool) (l : NameList) (r : Flags) (i : ℕ) (d : Wanted) (e : Bool) → r ≡ flagsOf f (namesIn l)
+    → i < l .count → l .count ≤ length (l .names) → getD (r .of) i e ≡ f (askOf (getD (l .names) i d))
 unfolding flagsOf
 flag-at f l r i d e v h k =
+    let n : l .count ≤ length (map askOf (l .names)) = rw length-map k in
     ap (λ (x : Flags). getD (x .of) i e) v
-    ∙ filled-at f longestList false (map askOf (l .names)) (l .count) i (askOf d) e h (omega (arith, length-map (l .names) askOf))
+    ∙ filled-at f longestList false (map askOf (l .names)) (l .count) i (askOf d) e h n
     ∙ ap f (List·getD-map askOf (l .names) i d)
 
 -- a request is tested as an entry at the tail would be
-pub tail-available : (q : List Entry) (t : ℕ) (a : Ask) → available q a ≡ control q (record { task = t; exclusive = a .exclusive; name = a .name })
+pub tail-available : (q : List Entry) (t : ℕ) (a : Ask)
+    → available q a ≡ control q (record { task = t; exclusive = a .exclusive; name = a .name })
 unfolding available control
 tail-available q t a = refl
+
+-- a loop to n that goes on is below n
+pub goes-on : (j n : ℕ) (b : Bool) → (ltb j n && b) ≡ true → j < n
+goes-on j n b h = ltb-true j n (and-left (ltb j n) b h)
+
+-- and one that has ended, though it might go on, is at n
+pub run-out : (j n : ℕ) (b : Bool) → j ≤ n → b ≡ true → (ltb j n && b) ≡ false → j ≡ n
+run-out j n true h g k = let m : n ≤ j = ltb-false j n (sym (and-true (ltb j n)) ∙ k) in omega arith
+run-out j n false h g k = absurd (false≢true g)
 
 -- the search, among the first n slots, for one that passes a test: from place j on, while none was found
 unfoldable pub Sought : (Entry → Bool) → List Slot → ℕ → ℕ → Bool → Type 0
@@ -55,32 +68,35 @@ module _ (f : Entry → Bool) (es : List Slot) (n : ℕ) where
   unfolding Sought
   sought-start = refl
 
-  pub sought-next : (j : ℕ) (d : Slot) (found b : Bool) → j < n → n ≤ length es → not found ≡ true → b ≡ f (entryOf (getD es j d))
-      → Sought f es n j found → Sought f es n (j + 1) b
+  pub sought-next : (j : ℕ) (d : Slot) (found b : Bool) → (ltb j n && not found) ≡ true → n ≤ length es
+      → b ≡ f (entryOf (getD es j d)) → Sought f es n j found → Sought f es n (j + 1) b
   unfolding Sought
-  sought-next j d true b h k s t v = absurd (false≢true s)
-  sought-next j d false b h k s t v = v ∙ ap (some f) (slice-view entryOf es j n d h k) ∙ ap (λ (a : Bool). a || some f (slice (j + 1) n (map entryOf es))) (sym t)
+  sought-next j d true b h k t v = absurd (false≢true (and-right (ltb j n) false h))
+  sought-next j d false b h k t v =
+      v ∙ ap (some f) (slice-view entryOf es j n d (goes-on j n true h) k)
+      ∙ ap (λ (a : Bool). a || some f (slice (j + 1) n (map entryOf es))) (sym t)
 
-  pub sought-end : (j : ℕ) (found : Bool) → j ≤ n → (ltb j n && not found) ≡ false → Sought f es n j found → some f (take n (map entryOf es)) ≡ found
+  pub sought-end : (j : ℕ) (found : Bool) → j ≤ n → (ltb j n && not found) ≡ false → Sought f es n j found
+      → some f (take n (map entryOf es)) ≡ found
   unfolding Sought
   sought-end j true h k v = v
-  sought-end j false h k v =
-      let m : n ≤ j = ltb-false j n (sym (and-true (ltb j n)) ∙ k) in
-      let i : j ≡ n = omega arith in
-      v ∙ rw i (ap (some f) (slice-empty n (map entryOf es)))
+  sought-end j false h k v = v ∙ rw (run-out j n true h refl k) (ap (some f) (slice-empty n (map entryOf es)))
 
 -- the flags of all names
-flags-taken : (f : Ask → Bool) (l : NameList) (r : Flags) → r ≡ flagsOf f (namesIn l) → l .count ≤ length (l .names) → take (l .count) (r .of) ≡ map f (namesIn l .asks)
-unfolding flagsOf
-flags-taken f l r e h =
-    ap (λ (x : Flags). take (l .count) (x .of)) e
-    ∙ ap (λ (k : ℕ). take k (padded longestList false (map f (namesIn l .asks)))) (sym (length-map (namesIn l .asks) f ∙ asks-length l h))
-    ∙ padded-take longestList false (map f (namesIn l .asks))
+module _ (f : Ask → Bool) (l : NameList) (r : Flags) (e : r ≡ flagsOf f (namesIn l))
+    (h : l .count ≤ length (l .names)) where
+  flags-taken : take (l .count) (r .of) ≡ map f (namesIn l .asks)
+  unfolding flagsOf
+  flags-taken =
+      let n : l .count ≡ length (map f (namesIn l .asks)) = sym (length-map (namesIn l .asks) f ∙ asks-length l h) in
+      ap (λ (x : Flags). take (l .count) (x .of)) e
+      ∙ ap (λ (k : ℕ). take k (padded longestList false (map f (namesIn l .asks)))) n
+      ∙ padded-take longestList false (map f (namesIn l .asks))
 
-pub some-flag : (f : Ask → Bool) (l : NameList) (r : Flags) → r ≡ flagsOf f (namesIn l) → l .count ≤ length (l .names) → someSet r (l .count) ≡ some f (namesIn l .asks)
-unfolding someSet
-some-flag f l r e h = ap (some (λ (b : Bool). b)) (flags-taken f l r e h) ∙ some-of f (λ (b : Bool). b) (namesIn l .asks)
+  pub some-flag : someSet r (l .count) ≡ some f (namesIn l .asks)
+  unfolding someSet
+  some-flag = ap (some (λ (b : Bool). b)) flags-taken ∙ some-of f (λ (b : Bool). b) (namesIn l .asks)
 
-pub every-flag : (f : Ask → Bool) (l : NameList) (r : Flags) → r ≡ flagsOf f (namesIn l) → l .count ≤ length (l .names) → allSet r (l .count) ≡ every f (namesIn l .asks)
-unfolding allSet
-every-flag f l r e h = ap (every (λ (b : Bool). b)) (flags-taken f l r e h) ∙ every-of f (λ (b : Bool). b) (namesIn l .asks)
+  pub every-flag : allSet r (l .count) ≡ every f (namesIn l .asks)
+  unfolding allSet
+  every-flag = ap (every (λ (b : Bool). b)) flags-taken ∙ every-of f (λ (b : Bool). b) (namesIn l .asks)

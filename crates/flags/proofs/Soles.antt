@@ -1,23 +1,23 @@
--- Whether a task alone owns a name, found by reading the leading run of the name's queue. Assumes nothing.
+-- Whether a task alone owns a name, found by reading the leading run of the name's queue.
 use mathlib.Core.Path.{_≡_, refl, sym, ap, _∙_}
 use mathlib.Core.Bool.{Bool, true, false, not, cond, _&&_, and-true, and-assoc}
 use mathlib.Core.List.{List, [], _∷_, map}
-use Prim.Native.Nat.{ℕ, _+_, _≤_, _<_}
-use native.Mathlib.Omega.{arith}
+use Prim.Native.Nat.{ℕ, _+_, _≤_}
 use lib.Dec.{ltb}
 use lib.ListN.{length, getD, take}
 use lib.Seq.{slice, slice-empty}
-use borrow.Author.Tests.{ltb-false}
 use Rattle.lists.specs.Lists.{every}
+use Rattle.lists.specs.Bools.{and-right}
 use Rattle.lists.specs.Pick.{pick}
 use Rattle.lists.specs.Every.{slice-view}
 use Rattle.kinds.specs.declared.names.Slot.{Slot}
 use Rattle.rules.specs.Names.{Resource, sameName}
 use Rattle.rules.specs.Control.{Entry, ofTask, queueOf, soleOwner}
-use Rattle.rules.specs.Demand.{sharedRun, leadingRun}
+use Rattle.rules.specs.DemandThree.{sharedRun, leadingRun}
 use Rattle.laws.specs.Owners.{owners-leading}
 use Rattle.queue.specs.Queues.{entryOf}
 use Rattle.flags.specs.Leading.{leadNext}
+use Rattle.flags.proofs.Flagged.{goes-on, run-out}
 use Rattle.flags.specs.declared.lead.Lead.{Lead}
 
 -- what the rest of a name's queue adds to the run
@@ -43,7 +43,8 @@ in-run t n s e l h g = rw (h, g) (one (s .first) (e .exclusive))
   where
     one : (a b : Bool)
         → (s .sole && every (ofTask t) (cond a (cond b (e ∷ []) (e ∷ sharedRun l)) (cond b [] (e ∷ sharedRun l))))
-        ≡ soleFrom t (pick (not a && b) (record { first = false; going = false; sole = s .sole }) (record { first = false; going = not b; sole = s .sole && ofTask t e })) l
+        ≡ soleFrom t (pick (not a && b) (record { first = false; going = false; sole = s .sole })
+        (record { first = false; going = not b; sole = s .sole && ofTask t e })) l
     one true true = sym (and-assoc (s .sole) (ofTask t e) true)
     one true false = sym (and-assoc (s .sole) (ofTask t e) (every (ofTask t) (sharedRun l)))
     one false true = refl
@@ -52,6 +53,16 @@ in-run t n s e l h g = rw (h, g) (one (s .first) (e .exclusive))
 other-name : (t : ℕ) (n : Resource) (s : Lead) (e : Entry) → sameName (e .name) n ≡ false → leadNext s t n e ≡ s
 unfolding leadNext pick
 other-name t n s e h = rw h
+
+-- one more entry of the table
+one-more : (t : ℕ) (m : Resource) (s : Lead) (e : Entry) (l : List Entry) → s .going ≡ true
+    → soleFrom t s (queueOf m (e ∷ l)) ≡ soleFrom t (leadNext s t m e) (queueOf m l)
+one-more t m s e l g = one (sameName (e .name) m) refl
+  where
+    one : (b : Bool) → sameName (e .name) m ≡ b
+        → soleFrom t s (cond b (e ∷ queueOf m l) (queueOf m l)) ≡ soleFrom t (leadNext s t m e) (queueOf m l)
+    one true w = in-run t m s e (queueOf m l) w g
+    one false w = ap (λ (u : Lead). soleFrom t u (queueOf m l)) (sym (other-name t m s e w))
 
 -- the first n slots are read up to place j
 unfoldable pub ReadTo : ℕ → Resource → List Slot → ℕ → ℕ → Lead → Type 0
@@ -62,29 +73,23 @@ module _ (t : ℕ) (m : Resource) (es : List Slot) (n : ℕ) where
   unfolding ReadTo
   read-start = ap (every (ofTask t)) (owners-leading m (take n (map entryOf es)))
 
-  pub read-next : (j : ℕ) (d : Slot) (s r : Lead) → j < n → n ≤ length es → s .going ≡ true → r ≡ leadNext s t m (entryOf (getD es j d))
-      → ReadTo t m es n j s → ReadTo t m es n (j + 1) r
+  pub read-next : (j : ℕ) (d : Slot) (s r : Lead) → (ltb j n && s .going) ≡ true → n ≤ length es
+      → r ≡ leadNext s t m (entryOf (getD es j d)) → ReadTo t m es n j s → ReadTo t m es n (j + 1) r
   unfolding ReadTo
-  read-next j d s r h k g e v =
-      v ∙ ap (λ (l : List Entry). soleFrom t s (queueOf m l)) (slice-view entryOf es j n d h k)
-      ∙ one (sameName (entryOf (getD es j d) .name) m) refl
+  read-next j d s r h k e v =
+      v ∙ ap (λ (l : List Entry). soleFrom t s (queueOf m l)) (slice-view entryOf es j n d (goes-on j n (s .going) h) k)
+      ∙ one-more t m s (entryOf (getD es j d)) (slice (j + 1) n (map entryOf es)) (and-right (ltb j n) (s .going) h)
       ∙ ap (λ (u : Lead). soleFrom t u (queueOf m (slice (j + 1) n (map entryOf es)))) (sym e)
-    where
-      one : (b : Bool) → sameName (entryOf (getD es j d) .name) m ≡ b
-          → soleFrom t s (cond b (entryOf (getD es j d) ∷ queueOf m (slice (j + 1) n (map entryOf es))) (queueOf m (slice (j + 1) n (map entryOf es))))
-          ≡ soleFrom t (leadNext s t m (entryOf (getD es j d))) (queueOf m (slice (j + 1) n (map entryOf es)))
-      one true w = in-run t m s (entryOf (getD es j d)) (queueOf m (slice (j + 1) n (map entryOf es))) w g
-      one false w = ap (λ (u : Lead). soleFrom t u (queueOf m (slice (j + 1) n (map entryOf es)))) (sym (other-name t m s (entryOf (getD es j d)) w))
 
-  pub read-end : (j : ℕ) (s : Lead) → j ≤ n → (ltb j n && s .going) ≡ false → ReadTo t m es n j s → soleOwner (take n (map entryOf es)) t m ≡ s .sole
+  pub read-end : (j : ℕ) (s : Lead) → j ≤ n → (ltb j n && s .going) ≡ false → ReadTo t m es n j s
+      → soleOwner (take n (map entryOf es)) t m ≡ s .sole
   unfolding ReadTo
   read-end j s h k v = v ∙ one (s .going) refl ∙ and-true (s .sole)
     where
       one : (g : Bool) → s .going ≡ g → soleFrom t s (queueOf m (slice j n (map entryOf es))) ≡ (s .sole && true)
       one true g =
-          let w : n ≤ j = ltb-false j n (sym (and-true (ltb j n)) ∙ ap (λ (b : Bool). ltb j n && b) (sym g) ∙ k) in
-          let i : j ≡ n = omega arith in
-          ap (λ (i : ℕ). soleFrom t s (queueOf m (slice i n (map entryOf es)))) i
-          ∙ ap (λ (l : List Entry). soleFrom t s (queueOf m l)) (slice-empty n (map entryOf es))
+          let e = run-out j n (s .going) h g k in
+          let x : slice j n (map entryOf es) ≡ [] = rw e (slice-empty n (map entryOf es)) in
+          ap (λ (l : List Entry). soleFrom t s (queueOf m l)) x
           ∙ ap (λ (l : List Entry). s .sole && every (ofTask t) l) (run-none (s .first) (s .going))
       one false g = rw g

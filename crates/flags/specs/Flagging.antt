@@ -1,4 +1,4 @@
--- One flag for each name beside a request. Assumes nothing.
+-- One flag for each name beside a request.
 use mathlib.Core.Bool.{Bool, false}
 use Prim.Native.Nat.{ℕ}
 use lib.ListN.{take}

@@ -1,4 +1,4 @@
--- The leading run of a name's queue, read entry by entry. Assumes nothing.
+-- The leading run of a name's queue, read entry by entry.
 use mathlib.Core.Bool.{false, not, _&&_}
 use Prim.Native.Nat.{ℕ}
 use Rattle.lists.specs.Pick.{pick}

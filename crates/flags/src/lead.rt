@@ -11,7 +11,7 @@ ghost use Rattle.kinds.specs.Limits.{mostEntries, longestList};
 ghost use Rattle.names.specs.Named.{resourceOf, namesIn};
 ghost use Rattle.rules.specs.Names.{Ask};
 ghost use Rattle.rules.specs.Control.{soleOwner};
-ghost use Rattle.queue.specs.Queues.{entryOf, live};
+ghost use Rattle.queue.specs.Queues.{entryOf, entriesIn};
 ghost use Rattle.flags.specs.Flagging.{flagsOf};
 ghost use Rattle.flags.specs.Leading.{leadNext};
 
@@ -49,7 +49,7 @@ fn read(s: Lead, x: Slot, t: TaskNumber, n: Name) -> Lead
 // For each name: nobody but the caller owns it.
 pub fn sole(q: Queue, caller: TaskNumber, l: NameList) -> Flags
     requires { ⌜ (q .count ≤ mostEntries) × (l .count ≤ longestList) ⌝ }
-    ensures { λ r. ⌜ r ≡ flagsOf (λ (a : Ask). soleOwner (live q) (caller .0) (a .name)) (namesIn l) ⌝ }
+    ensures { λ r. ⌜ r ≡ flagsOf (λ (a : Ask). soleOwner (entriesIn q) (caller .0) (a .name)) (namesIn l) ⌝ }
 {
     let n = q.count;
     let m = l.count as usize;

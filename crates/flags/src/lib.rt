@@ -12,7 +12,7 @@ ghost use Rattle.kinds.specs.Limits.{mostEntries, longestList};
 ghost use Rattle.names.specs.Named.{resourceOf, namesIn};
 ghost use Rattle.rules.specs.Names.{Ask};
 ghost use Rattle.rules.specs.Control.{isFor, hasEntry, available as availableIn};
-ghost use Rattle.queue.specs.Queues.{entryOf, live};
+ghost use Rattle.queue.specs.Queues.{entryOf, entriesIn};
 ghost use Rattle.flags.specs.Flagging.{flagsOf, someSet, allSet};
 
 // One flag for each name beside a request, false past the count.
@@ -68,7 +68,7 @@ fn is_for(x: Slot, t: TaskNumber, n: Name) -> bool
 // For each name: the caller has an entry.
 pub fn entered(q: Queue, caller: TaskNumber, l: NameList) -> Flags
     requires { ⌜ (q .count ≤ mostEntries) × (l .count ≤ longestList) ⌝ }
-    ensures { λ r. ⌜ r ≡ flagsOf (λ (a : Ask). hasEntry (live q) (caller .0) (a .name)) (namesIn l) ⌝ }
+    ensures { λ r. ⌜ r ≡ flagsOf (λ (a : Ask). hasEntry (entriesIn q) (caller .0) (a .name)) (namesIn l) ⌝ }
 {
     let n = q.count;
     let m = l.count as usize;
@@ -92,10 +92,11 @@ pub fn entered(q: Queue, caller: TaskNumber, l: NameList) -> Flags
     r
 }
 
-// For each name: a request for it would have control at once. It is tested as an entry at the tail would be, until one bars it.
+// For each name: a request for it would have control at once. It
+// is tested as an entry at the tail would be, until one bars it.
 pub fn available(q: Queue, l: NameList) -> Flags
     requires { ⌜ (q .count ≤ mostEntries) × (l .count ≤ longestList) ⌝ }
-    ensures { λ r. ⌜ r ≡ flagsOf (availableIn (live q)) (namesIn l) ⌝ }
+    ensures { λ r. ⌜ r ≡ flagsOf (availableIn (entriesIn q)) (namesIn l) ⌝ }
 {
     let n = q.count;
     let m = l.count as usize;

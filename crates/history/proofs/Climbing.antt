@@ -1,4 +1,4 @@
--- Who ends with a task, by the mothers that a run tells of, is who is below it in the task table. Assumes nothing.
+-- Who ends with a task, by the mothers that a run tells of, is who is below it in the task table.
 use mathlib.Core.Path.{_≡_, refl, sym, ap, _∙_}
 use mathlib.Core.Bool.{Bool, true, false, _||_}
 use mathlib.Core.List.{List}
@@ -32,12 +32,15 @@ module _ (ts : List Task) (job : jobStepGood ts ≡ true) (mothers : mothersGood
   climbs-chain : (f n : ℕ) → used ts n ≡ true → climbs m f c n ≡ chain f ts (only c) n
   unfolding climbs chain
   climbs-chain zero n u = refl
-  climbs-chain (suc f) n u = rw (u, told n u) (ap (λ (b : Bool). eqb n c || b) (above (eqb n jobStepTask) refl (climbs-chain f)))
+  climbs-chain (suc f) n u =
+      rw (u, told n u) (ap (λ (b : Bool). eqb n c || b) (above (eqb n jobStepTask) refl (climbs-chain f)))
     where
       above : (b : Bool) → eqb n jobStepTask ≡ b → ((k : ℕ) → used ts k ≡ true → climbs m f c k ≡ chain f ts (only c) k)
           → climbs m f c (mother ts n) ≡ chain f ts (only c) (mother ts n)
-      above true e ih = rw (eqb-true n jobStepTask e, no-mother ts job) (climbs-nobody f ∙ sym (chain-nobody f ts (only c)))
-      above false e ih = ih (mother ts n) (live-used ts (mother ts n) (has-mother ts mothers n u (eqb-false n jobStepTask e) .0))
+      above true e ih =
+          rw (eqb-true n jobStepTask e, no-mother ts job) (climbs-nobody f ∙ sym (chain-nobody f ts (only c)))
+      above false e ih =
+          ih (mother ts n) (live-used ts (mother ts n) (has-mother ts mothers n u (eqb-false n jobStepTask e) .0))
 
   pub climbs-below : (n : ℕ) → used ts n ≡ true → climbs m highestTask c n ≡ below ts c n
   unfolding below

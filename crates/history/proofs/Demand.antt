@@ -1,5 +1,5 @@
--- DEMAND 3, of every run from a fresh step. Assumes nothing.
-use Rattle.rules.specs.Demand.{DemandThree}
+-- DEMAND 3, of every run from a fresh step.
+use Rattle.rules.specs.DemandThree.{DemandThree}
 use Rattle.history.proofs.Runs.{run-keeps}
 use Rattle.history.proofs.Conclude.{conclude}
 

@@ -1,36 +1,38 @@
--- EXAMPLES of runs: demand 3 speaks of something. Assumes nothing.
-use mathlib.Core.Path.{_≡_, refl}
-use mathlib.Core.Bool.{true, false}
-use mathlib.Core.List.{List, [], _∷_, _++_, map}
+-- EXAMPLES of runs: demand 3 speaks of something.
+use mathlib.Core.Path.{refl}
+use mathlib.Core.List.{List, [], _∷_, _++_}
 use Rattle.lists.specs.Pick.{pick}
+use Rattle.lists.specs.Bools.{never}
 use Rattle.rules.specs.Rings.{step, then, Ring}
 use Rattle.rules.specs.Steps.{Step}
-use Rattle.rules.specs.Fresh.{freshOf}
+use Rattle.rules.specs.Fresh.{freshGood, freshOf}
 use Rattle.rules.specs.Serve.{Asked}
-use Rattle.rules.specs.Reading.{nothing, queueRead, oneAtATime}
-use Rattle.rules.specs.Demand.{Run, stop, serve, Fresh, waitsIn}
-use Rattle.history.specs.Samples.{turnsBy, comesTo, start, x, y, served, ownersOf, orderly, crossed, behindOwners, ownerDetached}
-use Rattle.history.proofs.Computed.{turns, left, shown}
+use Rattle.rules.specs.Reading.{queueRead}
+use Rattle.rules.specs.DemandThree.{Run, stop, turn, Fresh}
+use Rattle.history.specs.Samples.{turnsBy, comesTo, start, x, y, served, orderly, crossed, behindOwners}
+use Rattle.history.specs.Samples.{ownerDetached}
+use Rattle.history.specs.Told.{StillQueued}
+use Rattle.history.proofs.Told.{queue-told}
+use Rattle.history.proofs.Computed.{turns, crossed-run, told-entries}
 
 -- requests, however many, are a run
 pub run-of : (s : Step) (l : List Asked) → Run s (turnsBy served s l) (comesTo served s l)
 run-of s [] = stop
-run-of s (a ∷ l) = serve a (run-of (served s a .tables) l)
+run-of s (a ∷ l) = turn a (run-of (served s a .tables) l)
 
 pub starts : Fresh start
-unfolding freshOf pick
+unfolding freshOf freshGood pick
 starts = record { limit = 200; dispatching = 150; starts = refl }
 
--- 1: the habit is kept and there are waiters, so that one who is not waiting must be there: 3 is
-pub orderly-run : (oneAtATime nothing (turns orderly) ≡ true) × (map (waitsIn (left orderly)) (2 ∷ 3 ∷ 4 ∷ []) ≡ true ∷ false ∷ true ∷ []) × (ownersOf y (left orderly) ≡ 3 ∷ [])
-orderly-run = (shown .orderly-habit, shown .orderly-waits, shown .orderly-owners)
+-- the tasks that wait for each other are a ring
+pub crossed-ring : Ring (queueRead (turns crossed))
+crossed-ring = (2, then (crossed-run .2) (step (crossed-run .3)))
 
--- 2: the habit is broken, and there is a ring
-pub crossed-run : (oneAtATime nothing (turns crossed) ≡ false) × Ring (queueRead (turns crossed))
-crossed-run = (shown .crossed-habit, (2, then (shown .there) (step (shown .back))))
-
--- 3: when an owner is detached, they own who waited behind him and behind his daughter
-pub detached-run : (map (waitsIn (left behindOwners)) (3 ∷ 4 ∷ []) ≡ true ∷ true ∷ [])
-    × (map (waitsIn (left (behindOwners ++ ownerDetached))) (3 ∷ 4 ∷ []) ≡ false ∷ false ∷ [])
-    × (map (λ n. ownersOf n (left (behindOwners ++ ownerDetached))) (x ∷ y ∷ []) ≡ (3 ∷ []) ∷ (4 ∷ []) ∷ [])
-detached-run = (shown .behind-waits, shown .detached-waits, shown .detached-owners)
+-- 3 is still queued for y, 2 has released x, and 5 ended when its mother was detached
+pub told-run : StillQueued 3 y (turns orderly) × (StillQueued 2 x (turns orderly) → ⊥)
+    × (StillQueued 5 y (turns (behindOwners ++ ownerDetached)) → ⊥)
+told-run = (
+  queue-told (turns orderly) 3 y .0 (told-entries .0),
+  λ s. never _ (queue-told (turns orderly) 2 x .1 s) (told-entries .1),
+  λ s. never _ (queue-told (turns (behindOwners ++ ownerDetached)) 5 y .1 s) (told-entries .2),
+)

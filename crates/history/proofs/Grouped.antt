@@ -1,4 +1,4 @@
--- QUEUES IN WHICH EACH TASK'S ENTRIES STAND TOGETHER. Assumes nothing.
+-- QUEUES IN WHICH EACH TASK'S ENTRIES STAND TOGETHER.
 use mathlib.Core.Path.{_≡_}
 use mathlib.Core.Bool.{true, false}
 use mathlib.Core.List.{List, [], _∷_}

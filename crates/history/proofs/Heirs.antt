@@ -1,4 +1,4 @@
--- Task tables in which nobody is new, and everybody has the mother that he had. Assumes nothing.
+-- Task tables in which nobody is new, and everybody has the mother that he had.
 use mathlib.Core.Path.{_≡_, refl, sym, ap, subst, _∙_}
 use mathlib.Core.Bool.{Bool, true, false, not}
 use mathlib.Core.List.{List}
@@ -42,12 +42,14 @@ kindred-heirs ts us k n u = (sym (k .inUse n) ∙ u, k .mothers n)
 
 -- A TASK COMES TO ANOTHER CONDITION
 
-pub moved-heirs : (ts : List Task) (w : ℕ) (k : Condition) → 0 < w → w ≤ length ts → isFree k ≡ isFree (conditionOf ts w) → Heirs ts (withPlace ts w (withCondition (place ts w) k))
+pub moved-heirs : (ts : List Task) (w : ℕ) (k : Condition) → 0 < w → w ≤ length ts
+    → isFree k ≡ isFree (conditionOf ts w) → Heirs ts (withPlace ts w (withCondition (place ts w) k))
 unfolding used mother
 moved-heirs ts w k low high e n u =
-    by-place ts w (withCondition (place ts w) k) low high
-    (λ (x z : Task). not (isFree (z .condition)) ≡ true → (not (isFree (x .condition)) ≡ true) × (z .mother .0 ≡ x .mother .0))
-    (λ v. (ap not (sym e) ∙ v, refl)) (λ x v. (v, refl)) n u
+    by-place ts w _ low high
+    (λ (x z : Task). not (isFree (z .condition)) ≡ true
+    → (not (isFree (x .condition)) ≡ true) × (z .mother .0 ≡ x .mother .0)) (λ v. (ap not (sym e) ∙ v, refl))
+    (λ x v. (v, refl)) n u
 
 -- A POST
 
@@ -64,14 +66,18 @@ fewer-free (EcbWait n) = one (leb n 1)
 fewer-free Ended = refl
 
 -- a number that is no place's changes nothing
-woken-heirs : (ts : List Task) (w : ℕ) → (w ≡ 0 → ⊥) → Heirs ts (withPlace ts w (withCondition (place ts w) (onePostFewer (conditionOf ts w))))
+woken-heirs : (ts : List Task) (w : ℕ) → (w ≡ 0 → ⊥)
+    → Heirs ts (withPlace ts w (withCondition (place ts w) (onePostFewer (conditionOf ts w))))
 woken-heirs ts w d = one (leb w (length ts)) refl
   where
-    one : (b : Bool) → leb w (length ts) ≡ b → Heirs ts (withPlace ts w (withCondition (place ts w) (onePostFewer (conditionOf ts w))))
-    one true e = moved-heirs ts w (onePostFewer (conditionOf ts w)) (omega arith) (leb-true w (length ts) e) (fewer-free (conditionOf ts w))
+    one : (b : Bool) → leb w (length ts) ≡ b
+        → Heirs ts (withPlace ts w (withCondition (place ts w) (onePostFewer (conditionOf ts w))))
+    one true e = moved-heirs ts w _ (omega arith) (leb-true w (length ts) e) (fewer-free (conditionOf ts w))
     one false e =
         let k = leb-false w (length ts) e in
-        subst (Heirs ts) (sym (set-out ts (w - 1) (withCondition (place ts w) (onePostFewer (conditionOf ts w))) (omega arith))) (same-heirs ts)
+        subst (Heirs ts)
+        (sym (set-out ts (w - 1) (withCondition (place ts w) (onePostFewer (conditionOf ts w))) (omega arith)))
+        (same-heirs ts)
 
 pub posted-heirs : (ts : List Task) (es : List Ecb) (e code : ℕ) → Heirs ts (signalled ts es e code .tasks)
 unfolding signalled woken pick
@@ -84,13 +90,15 @@ posted-heirs ts es e code = complete (ecbAt es e .complete) (eqb w 0) refl
     ds = set es e (completed code)
 
     complete : (a b : Bool) → eqb w 0 ≡ b
-        → Heirs ts (pick a (record { tasks = ts; ecbs = es }) (pick b (record { tasks = ts; ecbs = ds }) (comesTo ts ds w (onePostFewer (conditionOf ts w)))) .tasks)
+        → Heirs ts (pick a (record { tasks = ts; ecbs = es })
+        (pick b (record { tasks = ts; ecbs = ds }) (comesTo ts ds w (onePostFewer (conditionOf ts w)))) .tasks)
     complete true b h = same-heirs ts
     complete false true h = same-heirs ts
     complete false false h = woken-heirs ts w (eqb-false w 0 h)
 
 -- TASK c ENDS, with all below it: its place is free, or is kept with its mother
-pub ended-heirs : (ts : List Task) (c : ℕ) (last : Task) → (isFree (last .condition) ≡ false → last .mother ≡ place ts c .mother) → Heirs ts (endTasks ts c last)
+pub ended-heirs : (ts : List Task) (c : ℕ) (last : Task)
+    → (isFree (last .condition) ≡ false → last .mother ≡ place ts c .mother) → Heirs ts (endTasks ts c last)
 unfolding used mother
 ended-heirs ts c last kin n u = one (below ts c n) (eqb n c) refl refl
   where
@@ -101,11 +109,13 @@ ended-heirs ts c last kin n u = one (below ts c n) (eqb n c) refl refl
     kept b v =
         let e = goes-last ts c last b in
         ap (λ (x : Task). x .mother .0) e
-        ∙ ap (λ m. m .0) (kin (not-true (isFree (last .condition)) (ap (λ (x : Task). not (isFree (x .condition))) (sym e) ∙ v)))
+        ∙ ap (λ m. m .0)
+        (kin (not-true (isFree (last .condition)) (ap (λ (x : Task). not (isFree (x .condition))) (sym e) ∙ v)))
 
     one : (b e : Bool) → below ts c n ≡ b → eqb n c ≡ e → (used ts n ≡ true) × (mother us n ≡ mother ts n)
     one false e b q = let k = stays ts c last n b in (used-same ts us n (sym k) ∙ u, mother-same us ts n k)
-    one true false b q = never (used us n) u (free-unused us n (goes-free ts c last n b (eqb-false n c q)))
+    one true false b q = never _ u (free-unused us n (goes-free ts c last n b (eqb-false n c q)))
     one true true b q =
         let i = eqb-true n c q in
-        (below-used ts c n b, subst (λ (k : ℕ). mother us k ≡ mother ts k) (sym i) (kept (subst (λ (k : ℕ). below ts c k ≡ true) i b) (subst (λ (k : ℕ). used us k ≡ true) i u)))
+        let k = kept (subst (λ (j : ℕ). below ts c j ≡ true) i b) (subst (λ (j : ℕ). used us j ≡ true) i u) in
+        (below-used ts c n b, subst (λ (j : ℕ). mother us j ≡ mother ts j) (sym i) k)

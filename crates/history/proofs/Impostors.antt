@@ -1,16 +1,18 @@
--- NO IMPOSTOR MEETS DEMAND 3: a run of each, and what is false of it. What each is tried by holds of the rules' own, where demand 3 does. Assumes nothing.
+-- NO IMPOSTOR MEETS DEMAND 3: a run of each, and what is false of it that holds of the rules' own where demand 3 does.
 use mathlib.Core.Path.{_≡_, sym, ap, _∙_}
 use mathlib.Core.Bool.{Bool, true, false}
 use mathlib.Core.List.{List, _++_}
 use Rattle.lists.specs.Lists.{some}
 use Rattle.lists.specs.Bools.{never}
-use Rattle.rules.specs.Control.{Entry, ofTask, queueOf}
-use Rattle.rules.specs.Demand.{standsIn, leadingRun, DemandThree}
+use Rattle.rules.specs.Control.{Entry, ofTask}
+use Rattle.rules.specs.DemandThree.{DemandThree}
 use Rattle.rules.specs.Reading.{queueRead, oneAtATime}
-use Rattle.history.specs.Samples.{turnsBy, comesTo, start, x, served, crossed, behindOwners, ownerDetached, asksOnce, changes, twoAsk, second}
+use Rattle.history.specs.Samples.{turnsBy, comesTo, start, x, served, crossed, behindOwners, ownerDetached}
+use Rattle.history.specs.Samples.{asksOnce, changes, twoAsk, second}
 use Rattle.history.specs.Impostors.{Ringless, weakHabit, Tells, deafRead, Meets, leavesAll, forgetsOne, grantsAll}
-use Rattle.history.proofs.Computed.{turns, left, shown}
-use Rattle.history.proofs.Examples.{run-of, starts, crossed-run}
+use Rattle.history.proofs.Computed.{turns, left, crossed-run, deaf-run, leaving-run, forgetting-run}
+use Rattle.history.proofs.Computed.{granting-run}
+use Rattle.history.proofs.Examples.{run-of, starts, crossed-ring}
 
 -- WHAT DEMAND 3 GIVES of the habit, the reading and the services
 
@@ -31,26 +33,22 @@ differ f p q h k e = never (some f p) h (ap (some f) e ∙ k)
 
 -- to ask only while nothing is waited for leaves rings
 pub weak-habit-rings : Ringless weakHabit → ⊥
-weak-habit-rings h = h start (left crossed) (turns crossed) starts (run-of start crossed) (shown .weak-habit) (crossed-run .1)
+weak-habit-rings h = h start (left crossed) (turns crossed) starts (run-of start crossed) (crossed-run .1) crossed-ring
 
 -- a reading that is deaf to CHNG does not tell the queue
 pub deaf-reading-fails : Tells deafRead → ⊥
 deaf-reading-fails h =
-    differ (λ (e : Entry). e .exclusive) (left changes .queue) (deafRead (turns changes)) (shown .changed) (shown .unchanged)
-    (h start (left changes) (turns changes) starts (run-of start changes))
+    differ (λ (e : Entry). e .exclusive) _ _ (deaf-run .0) (deaf-run .1) (h start _ _ starts (run-of start changes))
 
 -- a service that copies the tables back loses the queue, although nobody then lacks control
 pub leaving-all-fails : Meets leavesAll → ⊥
-leaving-all-fails h =
-    differ (ofTask 1) (queueRead (turnsBy leavesAll start asksOnce)) (comesTo leavesAll start asksOnce .queue) (shown .asked) (shown .lost) (sym (h asksOnce .stored))
+leaving-all-fails h = differ (ofTask 1) _ _ (leaving-run .0) (leaving-run .1) (sym (h asksOnce .stored))
 
--- a DETACH that forgets one entry keeps what nobody asks for any more
+-- an ending (here a DETACH) that forgets one entry keeps what nobody asks for any more
 pub forgetting-fails : Meets forgetsOne → ⊥
 forgetting-fails h =
-    differ (ofTask 2) (comesTo forgetsOne start (behindOwners ++ ownerDetached) .queue) (queueRead (turnsBy forgetsOne start (behindOwners ++ ownerDetached)))
-    (shown .forgotten) (shown .ended) (h (behindOwners ++ ownerDetached) .stored)
+    differ (ofTask 2) _ _ (forgetting-run .0) (forgetting-run .1) (h (behindOwners ++ ownerDetached) .stored)
 
 -- a service that grants all queued names at the first call breaks the leading run
 pub granting-all-fails : Meets grantsAll → ⊥
-granting-all-fails h =
-    never (standsIn second (leadingRun (queueOf x (queueRead (turnsBy grantsAll start twoAsk))))) (h twoAsk .granted x second (shown .queued) (shown .goes-on)) (shown .not-leading)
+granting-all-fails h = never _ (h twoAsk .among x second (granting-run .0) (granting-run .1)) (granting-run .2)

@@ -1,4 +1,4 @@
--- What can happen to a queue keeps each task's entries together, if no task queues while it has an entry. Assumes nothing.
+-- What can happen to a queue keeps each task's entries together, if no task queues while it has an entry.
 use mathlib.Core.Path.{_≡_, refl, sym, ap, subst, _∙_}
 use mathlib.Core.Bool.{Bool, true, false, not, cond, _||_}
 use mathlib.Core.List.{List, [], _∷_, _++_, map, append-nil}
@@ -12,8 +12,10 @@ use Rattle.lists.specs.Every.{some-append}
 use Rattle.lists.specs.Keeping.{some-keep}
 use Rattle.rules.specs.Names.{Ask}
 use Rattle.rules.specs.Control.{Entry, ofTask}
-use Rattle.rules.specs.Enq.{entryFor, madeExclusive}
-use Rattle.rules.specs.Reading.{Event, Queues, Releases, Changes, Ends, takes, makesOf, after}
+use Rattle.rules.specs.Enq.{entryFor}
+use Rattle.rules.specs.Reading.{Effect, NoEffect, Queues, Releases, Changes, Ends, Attaches, takes, makesOf, brings}
+use Rattle.rules.specs.Reading.{after, breaks}
+use Rattle.history.proofs.Effects.{makes-same}
 use Rattle.history.proofs.Grouped.{Front, Grouped}
 
 -- ENTRIES GO
@@ -23,7 +25,9 @@ front-keep f t [] g h = h
 front-keep f t (e ∷ q) g h = one (f e) h (front-keep f t q (g .1))
   where
     one : (b : Bool) → Front t (e ∷ q) → (Front t q → Front t (keep f q)) → Front t (cond b (e ∷ keep f q) (keep f q))
-    one true (inl n) ih = inl (ap (λ (b : Bool). b || some (ofTask t) (keep f q)) (or-left (ofTask t e) _ n) ∙ some-keep (ofTask t) f q (or-right (ofTask t e) _ n))
+    one true (inl n) ih =
+        inl (ap (λ (b : Bool). b || some (ofTask t) (keep f q)) (or-left (ofTask t e) _ n)
+        ∙ some-keep _ f q (or-right (ofTask t e) _ n))
     one true (inr s) ih = inr s
     one false (inl n) ih = inl (some-keep (ofTask t) f q (or-right (ofTask t e) _ n))
     one false (inr s) ih = ih (subst (λ (u : ℕ). Front u q) (eqb-true (e .task) t s) (g .0))
@@ -50,14 +54,11 @@ module _ (f : Entry → Entry) (same : (e : Entry) → f e .task ≡ e .task) wh
 
   grouped-map : (q : List Entry) → Grouped q → Grouped (map f q)
   grouped-map [] g = tt
-  grouped-map (e ∷ q) g = (front-map (f e .task) q (subst (λ (t : ℕ). Front t q) (sym (same e)) (g .0)), grouped-map q (g .1))
+  grouped-map (e ∷ q) g =
+      (front-map (f e .task) q (subst (λ (t : ℕ). Front t q) (sym (same e)) (g .0)), grouped-map q (g .1))
 
-makes-same : (ev : Event) (e : Entry) → makesOf ev e .task ≡ e .task
-unfolding madeExclusive
-makes-same (Queues t asks) e = refl
-makes-same (Releases t ns) e = refl
-makes-same (Changes t ns) e = refl
-makes-same (Ends who) e = refl
+same-task : (ev : Effect) (e : Entry) → makesOf ev e .task ≡ e .task
+same-task ev e = ap (λ (x : Entry). x .task) (makes-same ev e)
 
 -- ENTRIES COME TO THE TAIL, with one request
 
@@ -80,30 +81,32 @@ module _ (t : ℕ) where
   joined : (q : List Entry) (l : List Ask) → some (ofTask t) q ≡ false → Grouped q → Grouped (q ++ map (entryFor t) l)
   joined [] l n g = block l
   joined (e ∷ q) l n g =
-      (front-joined (e .task) q l (eqb-false (e .task) t (or-left (ofTask t e) _ n)) (g .0), joined q l (or-right (ofTask t e) _ n) (g .1))
+      let d = eqb-false (e .task) t (or-left (ofTask t e) _ n) in
+      (front-joined (e .task) q l d (g .0), joined q l (or-right (ofTask t e) _ n) (g .1))
 
--- ONE EVENT
+-- ONE EFFECT
 
--- whoever queues has no entry
-abbrev pub Alone : Event → List Entry → Type 0
-Alone (Queues t asks) q = some (ofTask t) q ≡ false
-Alone (Releases t ns) q = Unit {0}
-Alone (Changes t ns) q = Unit {0}
-Alone (Ends who) q = Unit {0}
-
--- what an event leaves of a queue
-abbrev left : Event → List Entry → List Entry
+-- what an effect leaves of a queue
+abbrev left : Effect → List Entry → List Entry
 left ev q = map (makesOf ev) (keep (λ (e : Entry). not (takes ev e)) q)
 
-left-grouped : (ev : Event) (q : List Entry) → Grouped q → Grouped (left ev q)
-left-grouped ev q g = grouped-map (makesOf ev) (makes-same ev) (keep (λ (e : Entry). not (takes ev e)) q) (grouped-keep (λ (e : Entry). not (takes ev e)) q g)
+module _ (q : List Entry) (g : Grouped q) where
+  left-grouped : (ev : Effect) → Grouped (left ev q)
+  left-grouped ev =
+      grouped-map _ (same-task ev) (keep (λ (e : Entry). not (takes ev e)) q)
+      (grouped-keep (λ (e : Entry). not (takes ev e)) q g)
 
-pub after-grouped : (ev : Event) (q : List Entry) → Alone ev q → Grouped q → Grouped (after ev q)
-after-grouped (Queues t asks) q a g =
-    joined t (left (Queues t asks) q) asks
-    (some-changed (makesOf (Queues t asks)) (makes-same (Queues t asks)) t (keep (λ (e : Entry). not (takes (Queues t asks) e)) q)
-    ∙ some-keep (ofTask t) (λ (e : Entry). not (takes (Queues t asks) e)) q a)
-    (left-grouped (Queues t asks) q g)
-after-grouped (Releases t ns) q a g = rw (append-nil (left (Releases t ns) q)) (left-grouped (Releases t ns) q g)
-after-grouped (Changes t ns) q a g = rw (append-nil (left (Changes t ns) q)) (left-grouped (Changes t ns) q g)
-after-grouped (Ends who) q a g = rw (append-nil (left (Ends who) q)) (left-grouped (Ends who) q g)
+  -- it brings nothing
+  only-left : (ev : Effect) → brings ev ≡ [] → Grouped (after ev q)
+  only-left ev b = rw (b, append-nil (left ev q)) (left-grouped ev)
+
+  pub after-grouped : (ev : Effect) → breaks ev q ≡ false → Grouped (after ev q)
+  after-grouped NoEffect a = only-left NoEffect refl
+  after-grouped (Queues t asks) a =
+      joined t (left (Queues t asks) q) asks
+      (some-changed _ (same-task (Queues t asks)) t (keep (λ (e : Entry). true) q)
+      ∙ some-keep _ (λ (e : Entry). true) q a) (left-grouped (Queues t asks))
+  after-grouped (Releases t ns) a = only-left (Releases t ns) refl
+  after-grouped (Changes t ns) a = only-left (Changes t ns) refl
+  after-grouped (Ends who) a = only-left (Ends who) refl
+  after-grouped (Attaches m n) a = only-left (Attaches m n) refl

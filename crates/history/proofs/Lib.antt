@@ -1,3 +1,7 @@
+pub mod Since
+pub mod Deeds
+pub mod ToldMothers
+pub mod Effects
 pub mod Climbing
 pub mod Heirs
 pub mod Seen
@@ -8,6 +12,7 @@ pub mod Queued
 pub mod Leavers
 pub mod Attached
 pub mod Runs
+pub mod Told
 pub mod Grouped
 pub mod Ringless
 pub mod First

@@ -1,6 +1,6 @@
--- A queue in which each task's entries stand together has no ring: whoever waits for another stands wholly behind him. Assumes nothing.
+-- A queue in which each task's entries stand together has no ring: whoever waits for another stands wholly behind him.
 use mathlib.Core.Path.{_≡_, refl, sym, ap, subst, _∙_}
-use mathlib.Core.Bool.{Bool, true, false, not, cond, _&&_, _||_, false≢true}
+use mathlib.Core.Bool.{Bool, true, false, not, cond, _&&_, _||_, false≢true, or-true}
 use mathlib.Core.List.{List, [], _∷_, _++_, append-nil, append-assoc}
 use mathlib.Core.Logic.{_⊎_, inl, inr}
 use Prim.Native.Nat.{ℕ, zero, suc, _≤_, _<_}
@@ -34,16 +34,14 @@ rank-starts t [] h = absurd h
 rank-starts t (e ∷ l) h = rw h
 
 -- a task with an entry here
-there : (t : ℕ) (p : List Entry) (e : Entry) (r : List Entry) → ofTask t e ≡ true → some (ofTask t) (p ++ (e ∷ r)) ≡ true
-there t p e r h = rw (some-append (ofTask t) p (e ∷ r), h) (one (some (ofTask t) p))
-  where
-    one : (b : Bool) → (b || true) ≡ true
-    one true = refl
-    one false = refl
+there : (t : ℕ) (p : List Entry) (e : Entry) (r : List Entry) → ofTask t e ≡ true
+    → some (ofTask t) (p ++ (e ∷ r)) ≡ true
+there t p e r h = rw (some-append (ofTask t) p (e ∷ r), h) (or-true (some (ofTask t) p))
 
 -- of two tasks, the one with an entry before an entry of the other ranks higher
 module _ (a b : ℕ) (other : eqb a b ≡ false) where
-  rank-before : (p : List Entry) (e : Entry) (r : List Entry) → Grouped (p ++ (e ∷ r)) → ofTask a e ≡ true → some (ofTask b) p ≡ true
+  rank-before : (p : List Entry) (e : Entry) (r : List Entry) → Grouped (p ++ (e ∷ r)) → ofTask a e ≡ true
+      → some (ofTask b) p ≡ true
       → rank a (p ++ (e ∷ r)) < rank b (p ++ (e ∷ r))
   rank-before [] e r g m s = absurd (false≢true s)
   rank-before (x ∷ p) e r g m s = one (decided (ofTask a x)) (decided (ofTask b x)) (g .0) (rank-before p e r (g .1) m)
@@ -57,7 +55,7 @@ module _ (a b : ℕ) (other : eqb a b ≡ false) where
       one (inr u) (inl v) f ih = let k = rank-le a l in rw (u, v) (omega arith)
       one (inr u) (inr v) f ih = rw (u, v) (ih (rw v at s))
       one (inl u) (inr v) (inl n) ih =
-          never (some (ofTask a) l) (there a p e r m) (subst (λ (t : ℕ). some (ofTask t) l ≡ false) (eqb-true (x .task) a u) n)
+          never _ (there a p e r m) (subst (λ (t : ℕ). some (ofTask t) l ≡ false) (eqb-true (x .task) a u) n)
       one (inl u) (inr v) (inr n) ih =
           let h : rank a l < rank b l = ih (rw v at s) in
           let j = rank-starts a l (subst (λ (t : ℕ). Starts t l) (eqb-true (x .task) a u) n) in
@@ -79,14 +77,16 @@ some-left : (f g : Entry → Bool) (l : List Entry) → some (λ (x : Entry). f 
 some-left f g [] h = h
 some-left f g (x ∷ l) h = one (f x) (g x) h (some-left f g l)
   where
-    one : (b c : Bool) → ((b && c) || some (λ (y : Entry). f y && g y) l) ≡ true → (some (λ (y : Entry). f y && g y) l ≡ true → some f l ≡ true)
+    one : (b c : Bool) → ((b && c) || some (λ (y : Entry). f y && g y) l) ≡ true
+        → (some (λ (y : Entry). f y && g y) l ≡ true → some f l ≡ true)
         → (b || some f l) ≡ true
     one true c k ih = refl
     one false c k ih = ih k
 
 behind : (a b : ℕ) (before l : List Entry) → waitsFrom before a b l ≡ true → Behind a b before l
 behind a b before [] h = absurd (false≢true h)
-behind a b before (e ∷ l) h = one (either (ofTask a e && (not (control before e) && past)) (waitsFrom (before ++ (e ∷ [])) a b l) h) (behind a b (before ++ (e ∷ [])) l)
+behind a b before (e ∷ l) h =
+    one (either _ (waitsFrom (before ++ (e ∷ [])) a b l) h) (behind a b (before ++ (e ∷ [])) l)
   where
     past : Bool
     past = some (λ (x : Entry). ofTask b x && bars x e) before
@@ -101,7 +101,9 @@ behind a b before (e ∷ l) h = one (either (ofTask a e && (not (control before 
           back = l;
           is = refl;
           mine = m .0;
-          passes = ap (some (ofTask b)) (append-nil before) ∙ some-left (ofTask b) (λ (x : Entry). bars x e) before (and-right (not (control before e)) past (m .1));
+          passes =
+              ap (some _) (append-nil before)
+              ∙ some-left _ (λ (x : Entry). bars x e) before (and-right (not (control before e)) past (m .1));
         }
     one (inr k) ih =
         let f = ih k in
@@ -121,7 +123,8 @@ module _ (q : List Entry) (g : Grouped q) where
       let k = both (not (eqb a b)) (waitsFrom [] a b q) w in
       let f = behind a b [] q (k .1) in
       subst (λ (l : List Entry). rank a l < rank b l) (sym (f .is))
-      (rank-before a b (not-true (eqb a b) (k .0)) (f .front) (f .entry) (f .back) (subst Grouped (f .is) g) (f .mine) (f .passes))
+      (rank-before a b (not-true (eqb a b) (k .0)) (f .front) (f .entry) (f .back) (subst Grouped (f .is) g) (f .mine)
+      (f .passes))
 
   leads-climbs : {a b : ℕ} → Leads q a b → rank a q < rank b q
   leads-climbs (step {a = a} {b = b} w) = wait-climbs a b w

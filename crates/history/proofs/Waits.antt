@@ -1,6 +1,6 @@
--- In a sound step a task is in a resource wait exactly when an entry of its lacks control: every number, with a place or without. Assumes nothing.
+-- In a sound step a number, with a place or not, is in a resource wait exactly when an entry of its lacks control.
 use mathlib.Core.Path.{_≡_, refl, sym, ap, _∙_}
-use mathlib.Core.Bool.{Bool, true, false, not, _&&_, false≢true}
+use mathlib.Core.Bool.{Bool, true, false, not, false≢true}
 use mathlib.Core.List.{List, [], _∷_}
 use mathlib.Core.Logic.{_⊎_, inl, inr}
 use Prim.Native.Nat.{ℕ, zero, suc, _≤_, _<_}
@@ -20,11 +20,10 @@ use Rattle.kinds.specs.declared.tasks.Condition.the-variants.{Free, Ready, Reso
 use Rattle.rules.specs.Control.{Entry, ofTask, lacks}
 use Rattle.rules.specs.Family.{place, conditionOf, live}
 use Rattle.rules.specs.Steps.{Step}
-use Rattle.rules.specs.SoundTasks.{tasksFit, zeroTask}
-use Rattle.rules.specs.SoundEcbs.{ecbsFit}
+use Rattle.rules.specs.SoundTasks.{zeroTask}
 use Rattle.rules.specs.SoundQueue.{entriesLive, waitGood, waitsGood, entriesOnce}
-use Rattle.rules.specs.Sound.{overGood, runningGood, soundStep}
-use Rattle.rules.specs.Demand.{waitsIn}
+use Rattle.rules.specs.Sound.{sizesGood, overGood, runningGood, soundStep}
+use Rattle.rules.specs.DemandThree.{waitsIn}
 use Rattle.laws.specs.Places.{place-none, place-past, at-number, every-number}
 use Rattle.laws.specs.Running.{Running, running-parts}
 use Rattle.laws.specs.Lacking.{lacks-none}
@@ -44,18 +43,25 @@ module _ (s : Step) (r : Running s) where
   -- whoever is not live has no entry
   dead-lacks : (t : ℕ) → live (s .tasks) t ≡ false → lacks t (s .queue) ≡ false
   unfolding entriesLive
-  dead-lacks t d = lacks-none t (s .queue) (every-gives (λ (e : Entry). live (s .tasks) (e .task)) (λ (e : Entry). not (ofTask t e)) other (s .queue) (r .entries))
+  dead-lacks t d =
+      lacks-none t (s .queue)
+      (every-gives (λ (e : Entry). live (s .tasks) (e .task)) (λ (e : Entry). not (ofTask t e)) other (s .queue)
+      (r .queue .entries))
     where
       other : (e : Entry) → live (s .tasks) (e .task) ≡ true → not (ofTask t e) ≡ true
-      other e l = ap not (not-so (ofTask t e) (λ o. never (live (s .tasks) (e .task)) l (ap (live (s .tasks)) (eqb-true (e .task) t o) ∙ d)))
+      other e l =
+          ap not (not-so _
+          (λ o. never (live (s .tasks) (e .task)) l (ap (live (s .tasks)) (eqb-true (e .task) t o) ∙ d)))
 
   running-waits : (t : ℕ) → waitsIn s t ≡ lacks t (s .queue)
   unfolding waitsGood waitGood
   running-waits t = one (placed (s .tasks) t)
     where
       one : ((0 < t) × (t ≤ length (s .tasks))) ⊎ (place (s .tasks) t ≡ noTask) → waitsIn s t ≡ lacks t (s .queue)
-      one (inl p) = alike-eq (waitsIn s t) (lacks t (s .queue)) (at-number (waitGood (s .queue)) (s .tasks) (r .waits) t (p .0) (p .1))
-      one (inr e) = ap (λ (x : Task). inResourceWait (x .condition)) e ∙ sym (dead-lacks t (ap (λ (x : Task). isLive (x .condition)) e))
+      one (inl p) = alike-eq (waitsIn s t) (lacks t (s .queue)) (at-number _ (s .tasks) (r .waits) t (p .0) (p .1))
+      one (inr e) =
+          ap (λ (x : Task). inResourceWait (x .condition)) e
+          ∙ sym (dead-lacks t (ap (λ (x : Task). isLive (x .condition)) e))
 
 -- A STEP THAT IS OVER
 
@@ -74,9 +80,9 @@ module _ (s : Step) (h : soundStep s ≡ true) where
   over-parts : s .over ≡ true → (every zeroTask (s .tasks) ≡ true) × (none (s .queue) ≡ true)
   unfolding soundStep overGood
   over-parts o =
-      let a = both (tasksFit (s .tasks) && ecbsFit (s .ecbs)) _ h in
-      let g : overGood s ≡ true = sym (pick-true (s .over) (overGood s) (runningGood s) o) ∙ a .1 in
-      let b = both (endCodeGood (s .code)) _ g in
+      let g : overGood s ≡ true = sym (pick-true (s .over) (overGood s) (runningGood s) o) ∙ h in
+      let a = both (sizesGood (s .tasks) (s .ecbs)) _ g in
+      let b = both (endCodeGood (s .code)) _ (a .1) in
       let d = both (every zeroTask (s .tasks)) _ (b .1) in
       (d .0, and-left (none (s .queue)) _ (d .1))
 
@@ -85,7 +91,9 @@ module _ (s : Step) (h : soundStep s ≡ true) where
   over-waits o t = one (placed (s .tasks) t)
     where
       one : ((0 < t) × (t ≤ length (s .tasks))) ⊎ (place (s .tasks) t ≡ noTask) → waitsIn s t ≡ false
-      one (inl p) = free-idle (conditionOf (s .tasks) t) (and-left (isFree (conditionOf (s .tasks) t)) _ (every-number zeroTask (s .tasks) (over-parts o .0) t (p .0) (p .1)))
+      one (inl p) =
+          free-idle (conditionOf _ t)
+          (and-left _ _ (every-number zeroTask (s .tasks) (over-parts o .0) t (p .0) (p .1)))
       one (inr e) = ap (λ (x : Task). inResourceWait (x .condition)) e
 
   pub sound-waits : (t : ℕ) → waitsIn s t ≡ lacks t (s .queue)
@@ -101,4 +109,4 @@ module _ (s : Step) (h : soundStep s ≡ true) where
     where
       one : (b : Bool) → s .over ≡ b → entriesOnce (s .queue) ≡ true
       one true o = ap entriesOnce (none-empty (s .queue) (over-parts o .1))
-      one false o = running-parts s h o .once
+      one false o = running-parts s h o .queue .once

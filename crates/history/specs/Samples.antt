@@ -1,4 +1,4 @@
--- RUNS TO LOOK AT: requests from a fresh step, and what a service makes of them. Assumes nothing.
+-- RUNS TO LOOK AT: requests from a fresh step, and what a service makes of them.
 use Prim.Native.Nat.{ℕ}
 use mathlib.Core.Bool.{true}
 use mathlib.Core.List.{List, [], _∷_, map}
@@ -12,7 +12,7 @@ use Rattle.rules.specs.Steps.{Step, Outcome}
 use Rattle.rules.specs.Fresh.{freshStep}
 use Rattle.rules.specs.Serve.{Asked, serveOf}
 use Rattle.rules.specs.Reading.{Turn}
-use Rattle.rules.specs.Demand.{turnOf}
+use Rattle.rules.specs.DemandThree.{turnOf}
 use Rattle.rules.specs.Table.{attach, detach, enq, deq, named, shr, exc}
 
 -- the turns that a service makes of requests from a step on, and the step that it leaves

@@ -8,7 +8,7 @@ ghost use Prim.Native.Nat.{_≤_};
 ghost use Rattle.kinds.specs.Limits.{mostAreas};
 ghost use Rattle.rules.specs.SoundAreas.{areaOwnerGood, areaOwnersGood};
 ghost use Rattle.rules.specs.Ending.{areaStays};
-ghost use Rattle.storage.specs.Stored.{live, stored, Packed};
+ghost use Rattle.storage.specs.Stored.{areasIn, storedAreas, PackedAreas};
 
 // Of the step, in subpool 0, or else of a live task.
 fn owner_good(f: Family, a: Area) -> bool
@@ -23,7 +23,7 @@ fn owner_good(f: Family, a: Area) -> bool
 
 pub fn owners_good(s: Storage, f: Family) -> bool
     requires { ⌜ s .count ≤ mostAreas ⌝ }
-    ensures { λ r. ⌜ r ≡ areaOwnersGood (f .places) (live s) ⌝ }
+    ensures { λ r. ⌜ r ≡ areaOwnersGood (f .places) (areasIn s) ⌝ }
 {
     let n = s.count;
     let mut i = 0;
@@ -50,8 +50,8 @@ fn stays(f: Family, a: Area) -> bool
 
 // The storage without the areas of tasks that are not live. What stays is stored here: a call would copy the table.
 pub fn sweep(s: Storage, f: Family) -> Storage
-    requires { ⌜ Packed s ⌝ }
-    ensures { λ r. ⌜ r ≡ stored (keep (areaStays (f .places)) (live s)) ⌝ }
+    requires { ⌜ PackedAreas s ⌝ }
+    ensures { λ r. ⌜ r ≡ storedAreas (keep (areaStays (f .places)) (areasIn s)) ⌝ }
 {
     let n = s.count;
     let mut r = storage::empty();

@@ -1,11 +1,11 @@
--- NO IMPOSTOR MEETS THE CONTRACT OF `serve`: tables and a request for each, and what is then false. Assumes nothing.
-use Prim.Native.Nat.{ℕ}
-use mathlib.Core.Path.{_≡_, refl, ap}
-use mathlib.Core.Bool.{Bool, true, false, not}
+-- NO IMPOSTOR MEETS THE CONTRACT OF `serve`: tables and a request for each, and what is then false.
+use mathlib.Core.Path.{_≡_, refl, sym, ap}
+use mathlib.Core.Bool.{Bool, false, not}
 use mathlib.Core.List.{List, [], _∷_}
-use lib.Dec.{eqb, leb}
+use mathlib.Core.Logic.{inl}
+use lib.Dec.{eqb}
 use Rattle.lists.specs.Lists.{some}
-use Rattle.kinds.specs.Replies.{refusalNumber}
+use Rattle.kinds.specs.Replies.{Besides}
 use Rattle.kinds.specs.Tasks.{inResourceWait}
 use Rattle.kinds.specs.declared.tasks.Task.{Task}
 use Rattle.kinds.specs.declared.tasks.Condition.{Condition}
@@ -14,28 +14,17 @@ use Rattle.kinds.specs.declared.requests.Request.the-variants.{End, Dispatch}
 use Rattle.kinds.specs.declared.requests.Ret.the-variants.{None}
 use Rattle.kinds.specs.declared.requests.DeqRet.the-variants.{None as DeqNone}
 use Rattle.kinds.specs.declared.replies.Refusal.{Refusal}
-use Rattle.kinds.specs.declared.replies.Refusal.the-variants.{Unsound, OutOfRange, NotLive, Waits, ShortCodes, NoEntryFree, NoTaskFree, NoAreaFree, StepOver, WaitBitOn}
 use Rattle.rules.specs.Steps.{Served}
 use Rattle.rules.specs.Table.{exc}
-use Rattle.rules.specs.Waits.{letGo}
+use Rattle.rules.specs.ResourceWaits.{letGo}
+use Rattle.laws.specs.Answering.{goes-no-refusal}
 use Rattle.history.specs.Samples.{start, x}
 use Rattle.services.specs.declared.Tables.{Tables}
 use Rattle.impostors.specs.Opened.{tables-open}
-use Rattle.impostors.specs.Impostors.{Given, Service, Caught, ImpostorsCaught, caught, on, allGo, refusesAll, saysZero, copiesBack, grantsAtOnce}
+use Rattle.impostors.specs.Impostors.{Given, Service, Caught, ImpostorsCaught, caught, on, allGo, refusesAll}
+use Rattle.impostors.specs.Impostors.{saysZero, copiesBack, grantsAtOnce}
+use Rattle.impostors.specs.Answers.{done-says}
 use Rattle.impostors.specs.Samples.{task, alone, enq, deq, after, owned, second, awaited}
-
--- every refusal has a number of 100 or more
-refusals-high : (why : Refusal) → leb 100 (refusalNumber why) ≡ true
-refusals-high Unsound = refl
-refusals-high OutOfRange = refl
-refusals-high NotLive = refl
-refusals-high Waits = refl
-refusals-high ShortCodes = refl
-refusals-high NoEntryFree = refl
-refusals-high NoTaskFree = refl
-refusals-high NoAreaFree = refl
-refusals-high StepOver = refl
-refusals-high WaitBitOn = refl
 
 -- nobody is left in a resource wait where all are let go
 abbrev waiting : Task → Bool
@@ -62,19 +51,26 @@ enq-by-2 = on (after start owned) second
 -- DISPATCH of a fresh step is done
 pub refusing-caught : (why : Given → Refusal) → Caught (refusesAll why)
 unfolding tables-open
-refusing-caught why =
-    caught (refusesAll why) (on start (alone Dispatch)) refl (λ o. leb 100 (o .outcome .number))
-    (refusals-high (why (on start (alone Dispatch)))) refl
+refusing-caught why = record {
+  given = on start (alone Dispatch);
+  fitting = refl;
+  by = λ k. goes-no-refusal 0 (why (on start (alone Dispatch))) (inl refl)
+      (ap (λ (o : Served Tables). o .outcome .number) (sym (k [] (0, 0) 0)));
+}
 
 -- task 2 of a fresh step is not live, and its END is refused
-pub saying-zero-caught : (besides : Given → ℕ) (f : Service) → Caught (saysZero besides f)
+pub saying-zero-caught : (besides : Given → Besides) (f : Service) → Caught (saysZero besides f)
 unfolding tables-open
-saying-zero-caught besides f = caught (saysZero besides f) (on start (alone (End (task 2) 0))) refl (λ o. eqb (o .outcome .number) 0) refl refl
+saying-zero-caught besides f =
+    caught (saysZero besides f) (on start (alone (End (task 2) 0))) refl (λ o. eqb (o .outcome .number) 0)
+    (ap (λ n. eqb n 0) (done-says (besides (on start (alone (End (task 2) 0)))) .0)) refl
 
 -- task 1 of a fresh step asks for x, and there is an entry
 pub copying-caught : (f : Service) → Caught (copiesBack f)
 unfolding tables-open
-copying-caught f = caught (copiesBack f) (on start (enq 1 None 0 (exc x ∷ []))) refl (λ o. eqb (o .outcome .tables .queue .count) 0) refl refl
+copying-caught f =
+    caught (copiesBack f) (on start (enq 1 None 0 (exc x ∷ []))) refl
+    (λ o. eqb (o .outcome .tables .queue .count) 0) refl refl
 
 -- 2 has to wait
 pub granting-caught-at-enq : (f : Service) → Caught (grantsAtOnce f)

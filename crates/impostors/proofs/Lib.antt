@@ -9,7 +9,7 @@ pub mod OfFamily
 pub mod OfPlaces
 pub mod OfSubtasks
 pub mod OfEvents
-pub mod OfWaits
+pub mod OfEcbwaits
 pub mod OfAreas
 pub mod OfStorage
 pub mod OfRooms

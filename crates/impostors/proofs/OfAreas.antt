@@ -1,11 +1,11 @@
--- Wrong answers that the contracts of `areas` rule out. Assumes nothing.
+-- Wrong answers that the contracts of `areas` rule out.
 use Prim.Native.Nat.{_+_, _-_, _%_}
 use mathlib.Core.Path.{refl}
 use mathlib.Core.Bool.{not, _&&_, _||_}
 use lib.Dec.{eqb, leb, ltb}
 use Rattle.kinds.specs.Limits.{region, doubleword}
 use Rattle.kinds.specs.Ranges.{subpoolGood}
-use Rattle.rules.specs.Storage.{startOf, endOf, oneHolder, bytesApart, pagesApart}
+use Rattle.rules.specs.Storage.{startOf, pastEnd, oneHolder, bytesApart, pagesApart}
 use Rattle.rules.specs.HandCases.{area}
 use Rattle.areas.proofs.end_of.Reads as end-of
 use Rattle.areas.proofs.apart.Reads as apart
@@ -48,7 +48,7 @@ apart-of-two-owners = wrong-at tt (area 0 8 5 1, (area 8 8 5 2, tt)) refl tt (λ
 -- an area meets the one that begins where it ends
 pub apart-not-if-they-touch :
     RuledOut (λ k. fits-Area ⊗ fits-Area ⊗ fits-end) apart.Pre apart.Post
-    (λ k a. (ltb (endOf (a .0)) (startOf (a .1 .0)) || ltb (endOf (a .1 .0)) (startOf (a .0)))
+    (λ k a. (ltb (pastEnd (a .0)) (startOf (a .1 .0)) || ltb (pastEnd (a .1 .0)) (startOf (a .0)))
     && (oneHolder (a .0) (a .1 .0) || pagesApart (a .0) (a .1 .0)))
 unfolding tables-open
 apart-not-if-they-touch = wrong-at tt (area 0 8 5 1, (area 8 8 5 1, tt)) refl tt not refl refl
@@ -72,7 +72,7 @@ same-area-a-part = wrong-at tt (area 0 8 5 1, (area 0 16 5 1, tt)) refl tt (λ b
 pub shape-good-no-bytes :
     RuledOut (λ k. fits-Area ⊗ fits-end) shape-good.Pre shape-good.Post
     (λ k a. eqb (a .0 .size % doubleword) 0
-    && (eqb (startOf (a .0) % doubleword) 0 && (leb (endOf (a .0)) region && subpoolGood (a .0 .subpool))))
+    && (eqb (startOf (a .0) % doubleword) 0 && (leb (pastEnd (a .0)) region && subpoolGood (a .0 .subpool))))
 unfolding tables-open
 shape-good-no-bytes = wrong-at tt (area 0 0 5 1, tt) refl tt (λ b. b) refl refl
 
@@ -88,6 +88,6 @@ shape-good-beyond-the-region = wrong-at tt (area 131064 16 5 1, tt) refl tt (λ 
 pub shape-good-not-the-last-byte :
     RuledOut (λ k. fits-Area ⊗ fits-end) shape-good.Pre shape-good.Post
     (λ k a. ltb 0 (a .0 .size) && (eqb (a .0 .size % doubleword) 0
-    && (eqb (startOf (a .0) % doubleword) 0 && (ltb (endOf (a .0)) region && subpoolGood (a .0 .subpool)))))
+    && (eqb (startOf (a .0) % doubleword) 0 && (ltb (pastEnd (a .0)) region && subpoolGood (a .0 .subpool)))))
 unfolding tables-open
 shape-good-not-the-last-byte = wrong-at tt (area 131064 8 5 1, tt) refl tt not refl refl

@@ -1,11 +1,11 @@
--- Wrong answers that the contracts of `asks` rule out. Assumes nothing.
-use mathlib.Core.Path.{_≡_, refl}
-use mathlib.Core.Bool.{Bool, true, false, not, _&&_, _||_}
+-- Wrong answers that the contracts of `asks` rule out.
+use mathlib.Core.Path.{refl}
+use mathlib.Core.Bool.{Bool, true, false, not, _&&_}
 use mathlib.Core.List.{List, [], _∷_, map}
 use Prim.Native.Nat.{ℕ, _-_}
 use native.Mathlib.Omega.{arith}
 use lib.Dec.{eqb, leb, ltb}
-use lib.ListN.{length, take, getD, replicate, length-replicate}
+use lib.ListN.{length, take, getD, replicate}
 use denote.Ref.{RefT, now, at-last}
 use Rattle.lists.specs.Pick.{pick}
 use Rattle.lists.specs.Lists.{every, some}
@@ -18,18 +18,18 @@ use Rattle.kinds.specs.declared.requests.Ret.the-variants.{None, Test, Use, Hav
 use Rattle.kinds.specs.declared.requests.DeqRet.{DeqRet}
 use Rattle.kinds.specs.declared.requests.DeqRet.the-variants.{None as DeqNone, Have as DeqHave}
 use Rattle.kinds.specs.declared.replies.Verdict.{Verdict}
-use Rattle.kinds.specs.declared.replies.Verdict.the-variants.{Go, Refuse, Fail}
 use Rattle.kinds.specs.declared.replies.Refusal.the-variants.{OutOfRange, ShortCodes, NoEntryFree}
 use Rattle.kinds.specs.declared.replies.Fault.the-variants.{DuplicateEnq, DeqWithoutEntry}
 use Rattle.rules.specs.Names.{Resource, Ask, Names, namesGood, namesOf as resources}
 use Rattle.rules.specs.Control.{Entry, hasEntry, available, holding}
-use Rattle.rules.specs.Codes.{allZero, writtenOn}
+use Rattle.rules.specs.Tests.{Check, refuse, fail, firstOf}
+use Rattle.rules.specs.Codes.{allZero, writtenOn, tooShort}
 use Rattle.rules.specs.Table.{named, shr, exc, counted}
-use Rattle.rules.specs.Enq.{entryFor, queuesAll, asksShared, duplicated, tooFewFree, enqCode, enqCodes, enqCodesDue}
+use Rattle.rules.specs.Enq.{entryFor, queuesAll, enqGood, duplicated, tooFewFree, enqCode, enqCodes, enqCodesDue}
 use Rattle.rules.specs.Deq.{deqCodes, deqCodesDue, unentered}
 use Rattle.history.specs.Samples.{x, y}
 use Rattle.names.specs.Named.{namesIn}
-use Rattle.queue.specs.Queues.{live, stored}
+use Rattle.queue.specs.Queues.{entriesIn, storedEntries}
 use Rattle.queue.specs.declared.Queue.{Queue}
 use Rattle.asks.specs.Coding.{codesOf, deqCodeBy}
 use Rattle.asks.specs.declared.codes.Codes.{Codes}
@@ -41,10 +41,11 @@ use Rattle.asks.proofs.codes.all_zero.Reads as all-zero
 use Rattle.asks.proofs.codes.write.Reads as write
 use Rattle.asks.proofs.verdict.enq_verdict.Reads as enq-verdict
 use Rattle.asks.proofs.verdict.deq_verdict.Reads as deq-verdict
-use Rattle.impostors.specs.Fitting.{_⊗_, fits-Codes, fits-DeqRet, fits-NameList, fits-Queue, fits-Ret, fits-TaskNumber, fits-end, fits-lent, fits-u32, fits-usize}
+use Rattle.impostors.specs.Fitting.{_⊗_, fits-Codes, fits-DeqRet, fits-NameList, fits-Queue, fits-Ret}
+use Rattle.impostors.specs.Fitting.{fits-TaskNumber, fits-end, fits-lent, fits-u32, fits-usize}
 use Rattle.impostors.specs.Opened.{tables-open}
 use Rattle.impostors.specs.Samples.{task, namesOf}
-use Rattle.impostors.specs.Wrong.{told-apart, RuledOut, wrong-at, RuledOutWith, wrong-with}
+use Rattle.impostors.specs.Wrong.{RuledOut, wrong-at, RuledOutWith, wrong-with}
 use Rattle.impostors.specs.Parts.{ownerAndWaiter, lent, verdictNumber}
 
 -- the code behind n others
@@ -86,10 +87,11 @@ fourFirst Chng q c w = enqCode Chng q c w
 -- task 1 tests x, which it owns
 pub enq-codes-4-before-8 :
     RuledOut (λ k. fits-Queue ⊗ fits-TaskNumber ⊗ fits-Ret ⊗ fits-NameList ⊗ fits-end) enq-codes.Pre enq-codes.Post
-    (λ k a. codesOf (map (fourFirst (a .1 .1 .0) (live (a .0)) (a .1 .0 .0)) (namesIn (a .1 .1 .1 .0) .asks)))
+    (λ k a. codesOf (map (fourFirst (a .1 .1 .0) (entriesIn (a .0)) (a .1 .0 .0)) (namesIn (a .1 .1 .1 .0) .asks)))
 unfolding tables-open
 enq-codes-4-before-8 =
-    wrong-at tt (stored ownerAndWaiter, (task 1, (Test, (namesOf (exc x ∷ []), tt)))) refl (omega arith, omega arith)
+    wrong-at tt (storedEntries ownerAndWaiter, (task 1, (Test, (namesOf (exc x ∷ []), tt)))) refl
+    (omega arith, omega arith)
     (λ k. eqb (code 0 k) 4) refl refl
 
 -- HAVE asks whether the name is available, as USE does
@@ -103,40 +105,44 @@ asUse Chng = Chng
 -- 3 asks for x, which task 1 owns
 pub enq-codes-have-as-use :
     RuledOut (λ k. fits-Queue ⊗ fits-TaskNumber ⊗ fits-Ret ⊗ fits-NameList ⊗ fits-end) enq-codes.Pre enq-codes.Post
-    (λ k a. codesOf (enqCodes (asUse (a .1 .1 .0)) (live (a .0)) (a .1 .0 .0) (namesIn (a .1 .1 .1 .0))))
+    (λ k a. codesOf (enqCodes (asUse (a .1 .1 .0)) (entriesIn (a .0)) (a .1 .0 .0) (namesIn (a .1 .1 .1 .0))))
 unfolding tables-open
 enq-codes-have-as-use =
-    wrong-at tt (stored ownerAndWaiter, (task 3, (Have, (namesOf (exc x ∷ []), tt)))) refl (omega arith, omega arith)
+    wrong-at tt (storedEntries ownerAndWaiter, (task 3, (Have, (namesOf (exc x ∷ []), tt)))) refl
+    (omega arith, omega arith)
     (λ k. eqb (code 0 k) 4) refl refl
 
 -- the codes past the count are 8
 pub enq-codes-8-past-the-count :
     RuledOut (λ k. fits-Queue ⊗ fits-TaskNumber ⊗ fits-Ret ⊗ fits-NameList ⊗ fits-end) enq-codes.Pre enq-codes.Post
     (λ k a. record {
-      bytes = padded longestList 8 (enqCodes (a .1 .1 .0) (live (a .0)) (a .1 .0 .0) (namesIn (a .1 .1 .1 .0)));
+      bytes = padded longestList 8 (enqCodes (a .1 .1 .0) (entriesIn (a .0)) (a .1 .0 .0) (namesIn (a .1 .1 .1 .0)));
     })
 unfolding tables-open
 enq-codes-8-past-the-count =
-    wrong-at tt (stored ownerAndWaiter, (task 3, (Have, (namesOf (exc x ∷ []), tt)))) refl (omega arith, omega arith)
+    wrong-at tt (storedEntries ownerAndWaiter, (task 3, (Have, (namesOf (exc x ∷ []), tt)))) refl
+    (omega arith, omega arith)
     (λ k. eqb (code 1 k) 8) refl refl
 
 -- 0 and 8 are exchanged: task 1 gives x back
 pub deq-codes-exchanged :
     RuledOut (λ k. fits-Queue ⊗ fits-TaskNumber ⊗ fits-DeqRet ⊗ fits-NameList ⊗ fits-end) deq-codes.Pre deq-codes.Post
-    (λ k a. codesOf (map (λ (n : Resource). deqCodeBy (a .1 .1 .0) (not (hasEntry (live (a .0)) (a .1 .0 .0) n)))
+    (λ k a. codesOf (map (λ (n : Resource). deqCodeBy (a .1 .1 .0) (not (hasEntry (entriesIn (a .0)) (a .1 .0 .0) n)))
     (resources (namesIn (a .1 .1 .1 .0)))))
 unfolding tables-open
 deq-codes-exchanged =
-    wrong-at tt (stored ownerAndWaiter, (task 1, (DeqHave, (namesOf (exc x ∷ []), tt)))) refl (omega arith, omega arith)
+    wrong-at tt (storedEntries ownerAndWaiter, (task 1, (DeqHave, (namesOf (exc x ∷ []), tt)))) refl
+    (omega arith, omega arith)
     (λ k. eqb (code 0 k) 8) refl refl
 
 -- an entry that lacks control is no entry: 2, who waits for x, gives it back
 pub deq-codes-of-owners-only :
     RuledOut (λ k. fits-Queue ⊗ fits-TaskNumber ⊗ fits-DeqRet ⊗ fits-NameList ⊗ fits-end) deq-codes.Pre deq-codes.Post
-    (λ k a. codesOf (deqCodes (a .1 .1 .0) (holding [] (live (a .0))) (a .1 .0 .0) (namesIn (a .1 .1 .1 .0))))
+    (λ k a. codesOf (deqCodes (a .1 .1 .0) (holding [] (entriesIn (a .0))) (a .1 .0 .0) (namesIn (a .1 .1 .1 .0))))
 unfolding tables-open
 deq-codes-of-owners-only =
-    wrong-at tt (stored ownerAndWaiter, (task 2, (DeqHave, (namesOf (exc x ∷ []), tt)))) refl (omega arith, omega arith)
+    wrong-at tt (storedEntries ownerAndWaiter, (task 2, (DeqHave, (namesOf (exc x ∷ []), tt)))) refl
+    (omega arith, omega arith)
     (λ k. eqb (code 0 k) 8) refl refl
 
 -- a code below 8 counts as 0: a 4
@@ -152,7 +158,8 @@ unfolding tables-open
 all-zero-but-the-last = wrong-at tt (codes (0 ∷ 8 ∷ []), (2, tt)) refl (omega arith) (λ b. b) refl refl
 
 -- the area holds these bytes at the end
-abbrev leaves : Codes × (ℕ × (RefT (List ℕ) × Unit {0})) → List ℕ → Unit {0} × (Codes × (ℕ × (RefT (List ℕ) × Unit {0})))
+abbrev leaves : Codes × (ℕ × (RefT (List ℕ) × Unit {0})) → List ℕ
+    → Unit {0} × (Codes × (ℕ × (RefT (List ℕ) × Unit {0})))
 leaves a l = (tt, (a .0, (a .1 .0, (at-last (a .1 .1 .0) l, tt))))
 
 -- all 16 codes are written, where the list has one name
@@ -171,38 +178,25 @@ write-zeros-behind =
     wrong-with ([], tt) (codes (8 ∷ []), (1, (lent (238 ∷ 238 ∷ []), tt))) refl (omega arith, omega arith)
     (λ l. eqb (getD l 1 0) 0) refl refl
 
--- VERDICTS, which are promised of every codes area of a length: one of zeros is tried
-wrong-of-room : {K : Type 0} {A R E : K → Type 0} {T : (k : K) → A k → Bool} {Q : (k : K) → A k → Type 0} {f : (k : K) → A k → R k}
-    {room : (k : K) → A k → ℕ} {d : (k : K) → A k → List ℕ → R k} (k : K) (a : A k) → T k a ≡ true → Q k a → (test : R k → Bool)
-    → test (f k a) ≡ true → test (d k a (replicate (room k a) 0)) ≡ false
-    → RuledOut {E = E} T Q (λ k a r e. (area : List ℕ) → length area ≡ room k a → r ≡ d k a area) f
-wrong-of-room {room = room} k a t q test h n = record {
-  lifetimes = k;
-  given = a;
-  fitting = t;
-  asked = q;
-  broken = λ e p. told-apart (p (replicate (room k a) 0) (length-replicate {A = ℕ} (room k a) 0)) test h n;
-}
+-- VERDICTS
 
--- by the entries, the caller, the RET kind, the names and the area's length
-abbrev verdictBy : {K : Type 0} → (List Entry → ℕ → K → Names → ℕ → Verdict)
-    → Queue × (TaskNumber × (K × (NameList × (ℕ × Unit {0})))) → Verdict
-verdictBy f a = f (live (a .0)) (a .1 .0 .0) (a .1 .1 .0) (namesIn (a .1 .1 .1 .0)) (a .1 .1 .1 .1 .0)
+-- what is asked, that it fits, by the RET kind's test, and what is said of the entries, the caller, the RET kind, the
+-- names and the area's length
+abbrev Asks : Type 0 → Type 0
+Asks K = Queue × (TaskNumber × (K × (NameList × (ℕ × Unit {0}))))
 
--- the tests of ENQ in their order: 101, 104, 201, 105
-abbrev inTurn : Bool → Bool → Bool → Bool → Verdict
-inTurn bad short twice full =
-    pick bad (Refuse OutOfRange)
-    (pick short (Refuse ShortCodes)
-    (pick twice (Fail DuplicateEnq)
-    (pick full (Refuse NoEntryFree)
-    Go)))
+abbrev fits-Asks : {K : Type 0} → (K → Bool) → Asks K → Bool
+fits-Asks ret = fits-Queue ⊗ fits-TaskNumber ⊗ ret ⊗ fits-NameList ⊗ fits-usize ⊗ fits-end
 
-abbrev bad : Ret → Names → Bool
-bad ret l = not (namesGood l) || asksShared ret l
+abbrev verdictBy : {K : Type 0} → (List Entry → ℕ → K → Names → ℕ → Verdict) → Asks K → Verdict
+verdictBy f a = f (entriesIn (a .0)) (a .1 .0 .0) (a .1 .1 .0) (namesIn (a .1 .1 .1 .0)) (a .1 .1 .1 .1 .0)
 
-abbrev short : Bool → ℕ → Names → Bool
-short due room l = due && ltb room (length (l .asks))
+-- the lines of ENQ's and DEQ's tables, where the codes area has room for so many bytes
+abbrev bad : Bool → Check
+bad good = refuse OutOfRange (not good)
+
+abbrev short : Bool → ℕ → Names → Check
+short due room l = refuse ShortCodes (due && tooShort room l)
 
 -- n entries of task 1
 abbrev long : ℕ → List Entry
@@ -211,109 +205,123 @@ long n = counted (λ i. entryFor 1 (exc (named 88 (i ∷ [])))) 1 n
 -- 104 goes before 101
 abbrev shortFirst : List Entry → ℕ → Ret → Names → ℕ → Verdict
 shortFirst q c ret l room =
-    pick (short (enqCodesDue ret) room l) (Refuse ShortCodes)
-    (inTurn (bad ret l) false (duplicated ret q c l) (tooFewFree ret q c l))
+    firstOf
+    (short (enqCodesDue ret) room l
+    ∷ bad (enqGood ret l)
+    ∷ fail DuplicateEnq (duplicated ret q c l)
+    ∷ refuse NoEntryFree (tooFewFree ret q c l)
+    ∷ [])
 
 -- CHNG asks for x shared, with no codes area
-pub enq-verdict-104-before-101 :
-    RuledOut (λ k. fits-Queue ⊗ fits-TaskNumber ⊗ fits-Ret ⊗ fits-NameList ⊗ fits-usize ⊗ fits-end) enq-verdict.Pre enq-verdict.Post
+pub enq-verdict-104-before-101 : RuledOut (λ k. fits-Asks fits-Ret) enq-verdict.Pre enq-verdict.Post
     (λ k a. verdictBy shortFirst a)
 unfolding tables-open
 enq-verdict-104-before-101 =
-    wrong-of-room tt (stored ownerAndWaiter, (task 1, (Chng, (namesOf (shr x ∷ []), (0, tt))))) refl (omega arith)
+    wrong-at tt (storedEntries ownerAndWaiter, (task 1, (Chng, (namesOf (shr x ∷ []), (0, tt))))) refl (omega arith)
     (λ v. eqb (verdictNumber v) 104) refl refl
 
 -- a duplicate is an error under every RET kind
 abbrev everyDuplicate : List Entry → ℕ → Ret → Names → ℕ → Verdict
 everyDuplicate q c ret l room =
-    inTurn (bad ret l) (short (enqCodesDue ret) room l) (duplicated None q c l) (tooFewFree ret q c l)
+    firstOf
+    (bad (enqGood ret l)
+    ∷ short (enqCodesDue ret) room l
+    ∷ fail DuplicateEnq (duplicated None q c l)
+    ∷ refuse NoEntryFree (tooFewFree ret q c l)
+    ∷ [])
 
 -- task 1 asks by USE for x, which it has
-pub enq-verdict-201-under-use :
-    RuledOut (λ k. fits-Queue ⊗ fits-TaskNumber ⊗ fits-Ret ⊗ fits-NameList ⊗ fits-usize ⊗ fits-end) enq-verdict.Pre enq-verdict.Post
+pub enq-verdict-201-under-use : RuledOut (λ k. fits-Asks fits-Ret) enq-verdict.Pre enq-verdict.Post
     (λ k a. verdictBy everyDuplicate a)
 unfolding tables-open
 enq-verdict-201-under-use =
-    wrong-of-room tt (stored ownerAndWaiter, (task 1, (Use, (namesOf (exc x ∷ []), (1, tt))))) refl (omega arith)
+    wrong-at tt (storedEntries ownerAndWaiter, (task 1, (Use, (namesOf (exc x ∷ []), (1, tt))))) refl (omega arith)
     (λ v. eqb (verdictNumber v) 201) refl refl
 
 -- one free place is enough for any list
 abbrev oneFree : List Entry → ℕ → Ret → Names → ℕ → Verdict
 oneFree q c ret l room =
-    inTurn (bad ret l) (short (enqCodesDue ret) room l) (duplicated ret q c l)
-    (queuesAll ret && allZero (enqCodes ret q c l) && leb mostEntries (length q))
+    firstOf
+    (bad (enqGood ret l)
+    ∷ short (enqCodesDue ret) room l
+    ∷ fail DuplicateEnq (duplicated ret q c l)
+    ∷ refuse NoEntryFree (queuesAll ret && allZero (enqCodes ret q c l) && leb mostEntries (length q))
+    ∷ [])
 
 -- 127 entries, and 2 asks for two names
-pub enq-verdict-one-free-is-enough :
-    RuledOut (λ k. fits-Queue ⊗ fits-TaskNumber ⊗ fits-Ret ⊗ fits-NameList ⊗ fits-usize ⊗ fits-end) enq-verdict.Pre enq-verdict.Post
+pub enq-verdict-one-free-is-enough : RuledOut (λ k. fits-Asks fits-Ret) enq-verdict.Pre enq-verdict.Post
     (λ k a. verdictBy oneFree a)
 unfolding tables-open
 enq-verdict-one-free-is-enough =
-    wrong-of-room tt (stored (long 127), (task 2, (None, (namesOf (exc x ∷ exc y ∷ []), (0, tt))))) refl (omega arith)
+    wrong-at tt (storedEntries (long 127), (task 2, (None, (namesOf (exc x ∷ exc y ∷ []), (0, tt))))) refl (omega arith)
     (λ v. eqb (verdictNumber v) 0) refl refl
 
 -- 105 goes before 201
 abbrev fullFirst : List Entry → ℕ → Ret → Names → ℕ → Verdict
 fullFirst q c ret l room =
-    inTurn (bad ret l) (short (enqCodesDue ret) room l)
-    (not (tooFewFree ret q c l) && duplicated ret q c l) (tooFewFree ret q c l)
+    firstOf
+    (bad (enqGood ret l)
+    ∷ short (enqCodesDue ret) room l
+    ∷ refuse NoEntryFree (tooFewFree ret q c l)
+    ∷ fail DuplicateEnq (duplicated ret q c l)
+    ∷ [])
 
 -- 128 entries, and task 1 asks for x, which it has
-pub enq-verdict-105-before-201 :
-    RuledOut (λ k. fits-Queue ⊗ fits-TaskNumber ⊗ fits-Ret ⊗ fits-NameList ⊗ fits-usize ⊗ fits-end) enq-verdict.Pre enq-verdict.Post
+pub enq-verdict-105-before-201 : RuledOut (λ k. fits-Asks fits-Ret) enq-verdict.Pre enq-verdict.Post
     (λ k a. verdictBy fullFirst a)
 unfolding tables-open
 enq-verdict-105-before-201 =
-    wrong-of-room tt (stored (long 128), (task 1, (None, (namesOf (exc x ∷ []), (0, tt))))) refl (omega arith)
+    wrong-at tt (storedEntries (long 128), (task 1, (None, (namesOf (exc x ∷ []), (0, tt))))) refl (omega arith)
     (λ v. eqb (verdictNumber v) 105) refl refl
-
--- the tests of DEQ in their order: 101, 104, 202
-abbrev deqInTurn : Bool → Bool → Bool → Verdict
-deqInTurn bad short without =
-    pick bad (Refuse OutOfRange)
-    (pick short (Refuse ShortCodes)
-    (pick without (Fail DeqWithoutEntry)
-    Go))
 
 -- the codes area has to be longer than the list
 abbrev longer : List Entry → ℕ → DeqRet → Names → ℕ → Verdict
 longer q c ret l room =
-    deqInTurn (not (namesGood l)) (deqCodesDue ret && leb room (length (l .asks))) (unentered ret q c l)
+    firstOf
+    (bad (namesGood l)
+    ∷ refuse ShortCodes (deqCodesDue ret && leb room (length (l .asks)))
+    ∷ fail DeqWithoutEntry (unentered ret q c l)
+    ∷ [])
 
 -- task 1 gives x back by HAVE, with an area of one byte
-pub deq-verdict-104-at-equal-length :
-    RuledOut (λ k. fits-Queue ⊗ fits-TaskNumber ⊗ fits-DeqRet ⊗ fits-NameList ⊗ fits-usize ⊗ fits-end) deq-verdict.Pre deq-verdict.Post
+pub deq-verdict-104-at-equal-length : RuledOut (λ k. fits-Asks fits-DeqRet) deq-verdict.Pre deq-verdict.Post
     (λ k a. verdictBy longer a)
 unfolding tables-open
 deq-verdict-104-at-equal-length =
-    wrong-of-room tt (stored ownerAndWaiter, (task 1, (DeqHave, (namesOf (exc x ∷ []), (1, tt))))) refl (omega arith)
+    wrong-at tt (storedEntries ownerAndWaiter, (task 1, (DeqHave, (namesOf (exc x ∷ []), (1, tt))))) refl (omega arith)
     (λ v. eqb (verdictNumber v) 104) refl refl
 
 -- an entry for one of the names is enough
 abbrev oneEntered : List Entry → ℕ → DeqRet → Names → ℕ → Verdict
 oneEntered q c ret l room =
-    deqInTurn (not (namesGood l)) (short (deqCodesDue ret) room l)
-    (unentered ret q c l && not (some (hasEntry q c) (resources l)))
+    firstOf
+    (bad (namesGood l)
+    ∷ short (deqCodesDue ret) room l
+    ∷ fail DeqWithoutEntry (unentered ret q c l && not (some (hasEntry q c) (resources l)))
+    ∷ [])
 
 -- task 1 gives x and y back, and has x
-pub deq-verdict-one-entry-is-enough :
-    RuledOut (λ k. fits-Queue ⊗ fits-TaskNumber ⊗ fits-DeqRet ⊗ fits-NameList ⊗ fits-usize ⊗ fits-end) deq-verdict.Pre deq-verdict.Post
+pub deq-verdict-one-entry-is-enough : RuledOut (λ k. fits-Asks fits-DeqRet) deq-verdict.Pre deq-verdict.Post
     (λ k a. verdictBy oneEntered a)
 unfolding tables-open
 deq-verdict-one-entry-is-enough =
-    wrong-of-room tt (stored ownerAndWaiter, (task 1, (DeqNone, (namesOf (exc x ∷ exc y ∷ []), (0, tt))))) refl
+    wrong-at tt (storedEntries ownerAndWaiter, (task 1, (DeqNone, (namesOf (exc x ∷ exc y ∷ []), (0, tt))))) refl
     (omega arith)
     (λ v. eqb (verdictNumber v) 0) refl refl
 
 -- a name without entry is an error under HAVE too
 abbrev everyMissing : List Entry → ℕ → DeqRet → Names → ℕ → Verdict
-everyMissing q c ret l room = deqInTurn (not (namesGood l)) (short (deqCodesDue ret) room l) (unentered DeqNone q c l)
+everyMissing q c ret l room =
+    firstOf
+    (bad (namesGood l)
+    ∷ short (deqCodesDue ret) room l
+    ∷ fail DeqWithoutEntry (unentered DeqNone q c l)
+    ∷ [])
 
 -- task 1 gives y back by HAVE, and has no entry for it
-pub deq-verdict-202-under-have :
-    RuledOut (λ k. fits-Queue ⊗ fits-TaskNumber ⊗ fits-DeqRet ⊗ fits-NameList ⊗ fits-usize ⊗ fits-end) deq-verdict.Pre deq-verdict.Post
+pub deq-verdict-202-under-have : RuledOut (λ k. fits-Asks fits-DeqRet) deq-verdict.Pre deq-verdict.Post
     (λ k a. verdictBy everyMissing a)
 unfolding tables-open
 deq-verdict-202-under-have =
-    wrong-of-room tt (stored ownerAndWaiter, (task 1, (DeqHave, (namesOf (exc y ∷ []), (1, tt))))) refl (omega arith)
+    wrong-at tt (storedEntries ownerAndWaiter, (task 1, (DeqHave, (namesOf (exc y ∷ []), (1, tt))))) refl (omega arith)
     (λ v. eqb (verdictNumber v) 202) refl refl

@@ -1,11 +1,11 @@
--- Wrong answers that the contracts of `claims` rule out. Assumes nothing.
+-- Wrong answers that the contracts of `claims` rule out.
 use mathlib.Core.Path.{_≡_, refl}
 use mathlib.Core.Bool.{Bool, true, false, not}
 use mathlib.Core.List.{List, [], _∷_}
 use Prim.Native.Nat.{ℕ}
 use native.Mathlib.Omega.{arith}
 use lib.Dec.{eqb}
-use lib.ListN.{take, getD}
+use lib.ListN.{length, take, getD}
 use denote.Ref.{RefT, now, at-last}
 use Rattle.lists.specs.Pick.{pick}
 use Rattle.lists.specs.Lists.{every}
@@ -35,31 +35,36 @@ use Rattle.history.specs.Samples.{start, x, y}
 use Rattle.names.specs.Named.{namesIn}
 use Rattle.family.specs.Families.{familyOf}
 use Rattle.family.specs.declared.Family.{Family}
-use Rattle.queue.specs.Queues.{live, stored, Packed}
+use Rattle.queue.specs.Queues.{entriesIn, storedEntries, PackedEntries}
 use Rattle.queue.specs.declared.Queue.{Queue}
 use Rattle.claims.specs.Claiming.{Admits, enqChanged, enqBy, deqBy}
 use Rattle.claims.specs.declared.Claims.{Claims}
 use Rattle.claims.specs.declared.Claimed.{Claimed}
 use Rattle.claims.proofs.enq.claimed.Reads as claimed
 use Rattle.claims.proofs.deq.given_up.Reads as given-up
-use Rattle.impostors.specs.Fitting.{_⊗_, fits-DeqRet, fits-Family, fits-NameList, fits-Queue, fits-Ret, fits-TaskNumber, fits-end, fits-lent}
+use Rattle.impostors.specs.Fitting.{_⊗_, fits-DeqRet, fits-Family, fits-NameList, fits-Queue, fits-Ret}
+use Rattle.impostors.specs.Fitting.{fits-TaskNumber, fits-end, fits-lent}
 use Rattle.impostors.specs.Opened.{tables-open}
 use Rattle.impostors.specs.Samples.{task, namesOf, after, owned as ownedRun, awaited as awaitedRun, sharedByOne}
+use Rattle.impostors.specs.Parts.{lent}
 use Rattle.impostors.specs.Wrong.{told-apart, RuledOutWith}
 
 -- the parameters of ENQ and of DEQ
 abbrev Given : Type 0 → Type 0
 Given R = Queue × (Family × (TaskNumber × (R × (NameList × (RefT (List ℕ) × Unit {0})))))
 
+-- that they fit, by the RET kind's test
+abbrev fits-Given : {R : Type 0} → (R → Bool) → Given R → Bool
+fits-Given ret = fits-Queue ⊗ fits-Family ⊗ fits-TaskNumber ⊗ ret ⊗ fits-NameList ⊗ fits-lent ⊗ fits-end
+
 -- on the tables of a step task c asks, with these bytes as codes area
 abbrev on : {R : Type 0} → Step → ℕ → R → NameList → List ℕ → Given R
-on s c ret l area =
-    (stored (s .queue), (familyOf (s .tasks), (task c, (ret, (l, (record { ptr = (0, 0); name = 0; now = area }, tt))))))
+on s c ret l area = (storedEntries (s .queue), (familyOf (s .tasks), (task c, (ret, (l, (lent area, tt))))))
 
 -- the queue, the caller, the RET kind, the names and the codes area
 module _ {R : Type 0} where
   abbrev queue : Given R → List Entry
-  queue a = live (a .0)
+  queue a = entriesIn (a .0)
 
   abbrev caller : Given R → TaskNumber
   caller a = a .1 .1 .0
@@ -82,21 +87,36 @@ ends a area =
 admits : (s : Step) (c : TaskNumber) → soundStep s ≡ true → s .over ≡ false → gateOf s c ≡ Open
     → Admits (s .queue) (s .tasks) c
 admits s c h o g = record {
-  rest = record { over = s .over; code = s .code; ecbs = s .ecbs; areas = s .areas };
+  rest = s;
   running = running-parts s h o;
   gate = g;
 }
 
 -- the promise is of the result and of the codes area: a test tells the result apart, or the area
-module _ {K : Type 0} {A R E W : K → Type 0} {T : (k : K) → A k → Bool} {Q : (k : K) → A k → Type 0} {f : (k : K) → A k → R k × E k}
-    {d : (k : K) → A k → R k} {area : (k : K) → E k → W k} {w : (k : K) → A k → W k} where
-  wrong-result : (k : K) (a : A k) → T k a ≡ true → Q k a → (test : R k → Bool) → test (f k a .0) ≡ true → test (d k a) ≡ false
-      → RuledOutWith T Q (λ k a r e. (r ≡ d k a) × (area k e ≡ w k a)) f
-  wrong-result k a t q test h n = record { lifetimes = k; given = a; fitting = t; asked = q; broken = λ p. told-apart (p .0) test h n }
+module _ {K : Type 0} {A R E W : K → Type 0} {T : (k : K) → A k → Bool} {Q : (k : K) → A k → Type 0}
+    {f : (k : K) → A k → R k × E k} {d : (k : K) → A k → R k} {area : (k : K) → E k → W k} {w : (k : K) → A k → W k}
+  where
+    wrong-result : (k : K) (a : A k) → T k a ≡ true → Q k a → (test : R k → Bool) → test (f k a .0) ≡ true
+        → test (d k a) ≡ false
+        → RuledOutWith T Q (λ k a r e. (r ≡ d k a) × (area k e ≡ w k a)) f
+    wrong-result k a t q test h n = record {
+      lifetimes = k;
+      given = a;
+      fitting = t;
+      asked = q;
+      broken = λ p. told-apart (p .0) test h n;
+    }
 
-  wrong-codes : (k : K) (a : A k) → T k a ≡ true → Q k a → (test : W k → Bool) → test (area k (f k a .1)) ≡ true → test (w k a) ≡ false
-      → RuledOutWith T Q (λ k a r e. (r ≡ d k a) × (area k e ≡ w k a)) f
-  wrong-codes k a t q test h n = record { lifetimes = k; given = a; fitting = t; asked = q; broken = λ p. told-apart (p .1) test h n }
+    wrong-codes : (k : K) (a : A k) → T k a ≡ true → Q k a → (test : W k → Bool) → test (area k (f k a .1)) ≡ true
+        → test (w k a) ≡ false
+        → RuledOutWith T Q (λ k a r e. (r ≡ d k a) × (area k e ≡ w k a)) f
+    wrong-codes k a t q test h n = record {
+      lifetimes = k;
+      given = a;
+      fitting = t;
+      asked = q;
+      broken = λ p. told-apart (p .1) test h n;
+    }
 
 -- task 1 owns x, and 2 is ready; then 2 waits for x
 abbrev owned : Step
@@ -109,15 +129,15 @@ awaited = after start awaitedRun
 abbrev shared : Step
 shared = after start sharedByOne
 
-owned-packed : Packed (stored (owned .queue))
+owned-packed : PackedEntries (storedEntries (owned .queue))
 unfolding tables-open
 owned-packed = record { form = refl; room = omega arith }
 
-awaited-packed : Packed (stored (awaited .queue))
+awaited-packed : PackedEntries (storedEntries (awaited .queue))
 unfolding tables-open
 awaited-packed = record { form = refl; room = omega arith }
 
-shared-packed : Packed (stored (shared .queue))
+shared-packed : PackedEntries (storedEntries (shared .queue))
 unfolding tables-open
 shared-packed = record { form = refl; room = omega arith }
 
@@ -133,7 +153,7 @@ withTables r t = record { verdict = r .verdict; reply = r .reply; tables = t }
 
 -- WHAT IS PROMISED OF ENQ
 abbrev enqSays : Given Ret → Verdict
-enqSays a = enqVerdict (queue a) (caller a) (ret a) (names a) (area a)
+enqSays a = enqVerdict (queue a) (caller a) (ret a) (names a) (length (area a))
 
 abbrev enqAnswer : Given Ret → Claimed
 enqAnswer a = enqBy (enqSays a) (ret a) (a .0) (a .1 .0) (caller a .0) (names a)
@@ -146,8 +166,7 @@ enqArea a =
     codesThrough Open (enqSays a) (area a) (enqWritten (queue a) (caller a) (ret a) (names a) (area a))
 
 -- the caller goes on without control: 2 asks for x
-pub claimed-goes-on-without-control :
-    RuledOutWith (λ k. fits-Queue ⊗ fits-Family ⊗ fits-TaskNumber ⊗ fits-Ret ⊗ fits-NameList ⊗ fits-lent ⊗ fits-end) claimed.Pre claimed.Post
+pub claimed-goes-on-without-control : RuledOutWith (λ k. fits-Given fits-Ret) claimed.Pre claimed.Post
     (λ k a. (withTables (enqAnswer a) (familyAsBefore a (enqAnswer a)), ends a (enqArea a)))
 unfolding tables-open
 claimed-goes-on-without-control =
@@ -165,13 +184,12 @@ byFirstCode a =
     (before a)
 
 -- 2 asks by USE for y and x, with the codes 0 and 4, and is queued for y
-pub claimed-by-the-first-code :
-    RuledOutWith (λ k. fits-Queue ⊗ fits-Family ⊗ fits-TaskNumber ⊗ fits-Ret ⊗ fits-NameList ⊗ fits-lent ⊗ fits-end) claimed.Pre claimed.Post
+pub claimed-by-the-first-code : RuledOutWith (λ k. fits-Given fits-Ret) claimed.Pre claimed.Post
     (λ k a. (withTables (enqAnswer a) (byFirstCode a), ends a (enqArea a)))
 unfolding tables-open
 claimed-by-the-first-code =
     wrong-result ([], tt) (on owned 2 Use (namesOf (exc y ∷ exc x ∷ [])) (238 ∷ 238 ∷ [])) refl
-    (owned-packed, admits owned (task 2) refl refl refl) (λ r. hasEntry (live (r .tables .queue)) 2 y) refl refl
+    (owned-packed, admits owned (task 2) refl refl refl) (λ r. hasEntry (entriesIn (r .tables .queue)) 2 y) refl refl
 
 -- the RET kind is CHNG
 abbrev isChng : Ret → Bool
@@ -182,18 +200,16 @@ isChng Have = false
 isChng Chng = true
 
 -- CHNG changes nothing: task 1 shares x and asks for it exclusive
-pub claimed-chng-leaves-it-shared :
-    RuledOutWith (λ k. fits-Queue ⊗ fits-Family ⊗ fits-TaskNumber ⊗ fits-Ret ⊗ fits-NameList ⊗ fits-lent ⊗ fits-end) claimed.Pre claimed.Post
+pub claimed-chng-leaves-it-shared : RuledOutWith (λ k. fits-Given fits-Ret) claimed.Pre claimed.Post
     (λ k a. (withTables (enqAnswer a) (pick (isChng (ret a)) (before a) (enqAnswer a .tables)), ends a (enqArea a)))
 unfolding tables-open
 claimed-chng-leaves-it-shared =
     wrong-result ([], tt) (on shared 1 Chng (namesOf (exc x ∷ [])) (238 ∷ [])) refl
     (shared-packed, admits shared (task 1) refl refl refl)
-    (λ r. every (λ (e : Entry). not (e .exclusive)) (live (r .tables .queue))) refl refl
+    (λ r. every (λ (e : Entry). not (e .exclusive)) (entriesIn (r .tables .queue))) refl refl
 
 -- NONE writes codes: 2 asks for y, with an area of one byte
-pub claimed-codes-under-none :
-    RuledOutWith (λ k. fits-Queue ⊗ fits-Family ⊗ fits-TaskNumber ⊗ fits-Ret ⊗ fits-NameList ⊗ fits-lent ⊗ fits-end) claimed.Pre claimed.Post
+pub claimed-codes-under-none : RuledOutWith (λ k. fits-Given fits-Ret) claimed.Pre claimed.Post
     (λ k a. (enqAnswer a, ends a (codesThrough Open (enqSays a) (area a) (writtenOn (enqCodesOf a) (area a)))))
 unfolding tables-open
 claimed-codes-under-none =
@@ -202,7 +218,7 @@ claimed-codes-under-none =
 
 -- WHAT IS PROMISED OF DEQ
 abbrev deqSays : Given DeqRet → Verdict
-deqSays a = deqVerdict (queue a) (caller a) (ret a) (names a) (area a)
+deqSays a = deqVerdict (queue a) (caller a) (ret a) (names a) (length (area a))
 
 abbrev deqAnswer : Given DeqRet → Claimed
 deqAnswer a = deqBy (deqSays a) (ret a) (a .0) (a .1 .0) (caller a .0) (names a)
@@ -215,8 +231,7 @@ deqArea a =
     codesThrough Open (deqSays a) (area a) (deqWritten (queue a) (caller a) (ret a) (names a) (area a))
 
 -- nobody is granted what was released: task 1 gives x back, for which 2 waits
-pub given-up-grants-nothing :
-    RuledOutWith (λ k. fits-Queue ⊗ fits-Family ⊗ fits-TaskNumber ⊗ fits-DeqRet ⊗ fits-NameList ⊗ fits-lent ⊗ fits-end) given-up.Pre given-up.Post
+pub given-up-grants-nothing : RuledOutWith (λ k. fits-Given fits-DeqRet) given-up.Pre given-up.Post
     (λ k a. (withTables (deqAnswer a) (familyAsBefore a (deqAnswer a)), ends a (deqArea a)))
 unfolding tables-open
 given-up-grants-nothing =
@@ -225,17 +240,15 @@ given-up-grants-nothing =
     (λ r. inResourceWait (conditionOf (r .tables .family .places) 2)) refl refl
 
 -- the answer is 0 although a code is 8: task 1 gives y back, and has no entry for it
-pub given-up-says-0-with-a-code-8 :
-    RuledOutWith (λ k. fits-Queue ⊗ fits-Family ⊗ fits-TaskNumber ⊗ fits-DeqRet ⊗ fits-NameList ⊗ fits-lent ⊗ fits-end) given-up.Pre given-up.Post
-    (λ k a. (record { verdict = deqSays a; reply = Done 0; tables = deqAnswer a .tables }, ends a (deqArea a)))
+pub given-up-says-0-with-a-code-8 : RuledOutWith (λ k. fits-Given fits-DeqRet) given-up.Pre given-up.Post
+    (λ k a. (record { verdict = deqSays a; reply = Done; tables = deqAnswer a .tables }, ends a (deqArea a)))
 unfolding tables-open
 given-up-says-0-with-a-code-8 =
     wrong-result ([], tt) (on owned 1 DeqHave (namesOf (exc y ∷ [])) (238 ∷ [])) refl
     (owned-packed, admits owned (task 1) refl refl refl) (λ r. eqb (numberOf (r .reply)) 0) refl refl
 
 -- nothing is released unless every code is 0: task 1 gives x and y back by HAVE, and has x only
-pub given-up-all-or-nothing :
-    RuledOutWith (λ k. fits-Queue ⊗ fits-Family ⊗ fits-TaskNumber ⊗ fits-DeqRet ⊗ fits-NameList ⊗ fits-lent ⊗ fits-end) given-up.Pre given-up.Post
+pub given-up-all-or-nothing : RuledOutWith (λ k. fits-Given fits-DeqRet) given-up.Pre given-up.Post
     (λ k a. (
       withTables (deqAnswer a) (pick (allZero (deqCodesOf a)) (deqAnswer a .tables) (before a)),
       ends a (deqArea a),
@@ -243,15 +256,14 @@ pub given-up-all-or-nothing :
 unfolding tables-open
 given-up-all-or-nothing =
     wrong-result ([], tt) (on owned 1 DeqHave (namesOf (exc x ∷ exc y ∷ [])) (238 ∷ 238 ∷ [])) refl
-    (owned-packed, admits owned (task 1) refl refl refl) (λ r. hasEntry (live (r .tables .queue)) 1 x) refl refl
+    (owned-packed, admits owned (task 1) refl refl refl) (λ r. hasEntry (entriesIn (r .tables .queue)) 1 x) refl refl
 
 -- the codes are found after the entries have gone: task 1 gives x back by HAVE, and the code is 8
-pub given-up-codes-after-the-release :
-    RuledOutWith (λ k. fits-Queue ⊗ fits-Family ⊗ fits-TaskNumber ⊗ fits-DeqRet ⊗ fits-NameList ⊗ fits-lent ⊗ fits-end) given-up.Pre given-up.Post
+pub given-up-codes-after-the-release : RuledOutWith (λ k. fits-Given fits-DeqRet) given-up.Pre given-up.Post
     (λ k a. (
       deqAnswer a,
       ends a (codesThrough Open (deqSays a) (area a)
-          (deqWritten (live (deqAnswer a .tables .queue)) (caller a) (ret a) (names a) (area a))),
+          (deqWritten (entriesIn (deqAnswer a .tables .queue)) (caller a) (ret a) (names a) (area a))),
     ))
 unfolding tables-open
 given-up-codes-after-the-release =

@@ -1,13 +1,13 @@
--- Wrong answers that the contracts of `endings` rule out. Assumes nothing.
+-- Wrong answers that the contracts of `endings` rule out.
 use Prim.Native.Nat.{ℕ}
 use mathlib.Core.Path.{_≡_, refl}
 use mathlib.Core.Bool.{Bool, true, false, not, _&&_}
+use mathlib.Core.List.{[], _∷_}
 use lib.Dec.{eqb}
 use Rattle.lists.specs.Pick.{pick}
 use Rattle.lists.specs.Lists.{some}
 use Rattle.kinds.specs.Limits.{jobStepTask}
 use Rattle.kinds.specs.Tasks.{noTask, isFree, isLive, inResourceWait}
-use Rattle.kinds.specs.Ranges.{taskGood, endCodeGood}
 use Rattle.kinds.specs.declared.tasks.Task.{Task}
 use Rattle.kinds.specs.declared.tasks.Condition.{Condition}
 use Rattle.kinds.specs.declared.tasks.MaybeEcb.{MaybeEcb}
@@ -16,14 +16,14 @@ use Rattle.kinds.specs.declared.replies.Fault.the-variants.{NotSubtask, HasSubt
 use Rattle.kinds.specs.declared.replies.Refusal.the-variants.{OutOfRange}
 use Rattle.kinds.specs.declared.replies.Gate.the-variants.{Open}
 use Rattle.kinds.specs.declared.replies.Verdict.{Verdict}
-use Rattle.kinds.specs.declared.replies.Verdict.the-variants.{Go, Refuse, Fail}
-use Rattle.rules.specs.Steps.{Step, withTasks, overStep}
+use Rattle.rules.specs.Tests.{refuse, fail, firstOf}
+use Rattle.rules.specs.Steps.{Step, withTasks, withState, overStep}
 use Rattle.rules.specs.Family.{place, withPlace, conditionOf, below, isSubtaskOf}
 use Rattle.rules.specs.Events.{ecbAt}
 use Rattle.rules.specs.Ending.{endTasks, leftBy, detached, endedPlace, endPosted, ended}
 use Rattle.rules.specs.Admission.{gateOf}
-use Rattle.rules.specs.Detach.{detachVerdict}
-use Rattle.rules.specs.End.{endVerdict}
+use Rattle.rules.specs.Detach.{detachGood, detachVerdict}
+use Rattle.rules.specs.End.{endGood, endVerdict}
 use Rattle.rules.specs.Abend.{abendVerdict}
 use Rattle.history.specs.Samples.{start}
 use Rattle.services.specs.Kept.{tablesOf, wholeIn, soundb}
@@ -58,7 +58,8 @@ abbrev whole : Step → Whole
 whole s = wholeIn (tablesOf s)
 
 -- what an ending asks: the tables are sound, and the caller is live and does not wait
-ends : (s : Step) (c : ℕ) → soundb (tablesOf s) ≡ true → gateOf (stepIn (whole s)) (task c) ≡ Open → Ends (whole s) (task c)
+ends : (s : Step) (c : ℕ) → soundb (tablesOf s) ≡ true → gateOf (stepIn (whole s)) (task c) ≡ Open
+    → Ends (whole s) (task c)
 ends s c h g = caller-ends (tablesOf s) (task c) (record { sound = h; gate = g }) (whole s) refl
 
 task-1-alone : Ends (whole start) (task 1)
@@ -99,7 +100,7 @@ postedIn w n code = ecbAt (w .events .ecbs) n .complete && eqb (ecbAt (w .events
 -- A STEP THAT IS OVER
 
 abbrev running : Step → Step
-running s = record { over = false; code = s .code; tasks = s .tasks; queue = s .queue; ecbs = s .ecbs; areas = s .areas }
+running s = withState s false (s .code)
 
 -- the tables say that the step runs
 pub over-with-a-step-that-runs : RuledOut (λ k. fits-u16 ⊗ fits-end) over-with.Pre over-with.Post
@@ -217,9 +218,10 @@ detached-and-posted = wrong-at tt (detach 2) refl task-1-of-four (λ r. postedIn
 -- whoever is below the caller may be detached
 abbrev belowVerdict : Detaching → Verdict
 belowVerdict a =
-    pick (taskGood (a .1 .1 .0 .0))
-    (pick (below (a .0 .family .places) (a .1 .0 .0) (a .1 .1 .0 .0)) Go (Fail NotSubtask))
-    (Refuse OutOfRange)
+    firstOf
+    (refuse OutOfRange (not (detachGood (a .1 .1 .0)))
+    ∷ fail NotSubtask (not (below (a .0 .family .places) (a .1 .0 .0) (a .1 .1 .0 .0)))
+    ∷ [])
 
 -- 3, a daughter of 2, is detached by task 1
 pub detached-further-down :
@@ -250,7 +252,10 @@ byEnd v f a = endedBy v (endedAs f a) (a .0)
 -- by another test of subtasks
 abbrev unlessHas : (Task → Bool) → Ending → Verdict
 unlessHas isOne a =
-    pick (endCodeGood (a .1 .1 .0)) (pick (some isOne (a .0 .family .places)) (Fail HasSubtasks) Go) (Refuse OutOfRange)
+    firstOf
+    (refuse OutOfRange (not (endGood (a .1 .1 .0)))
+    ∷ fail HasSubtasks (some isOne (a .0 .family .places))
+    ∷ [])
 
 -- subtasks do not stand in the way: 2, who has a daughter, ends
 pub ended-by-end-with-subtasks :

@@ -1,4 +1,4 @@
--- Wrong answers that the contracts of `entries` rule out. Assumes nothing.
+-- Wrong answers that the contracts of `entries` rule out.
 use mathlib.Core.Path.{refl}
 use mathlib.Core.Bool.{Bool, not, _||_}
 use mathlib.Core.List.{List, [], _∷_, _++_, map}
@@ -14,7 +14,7 @@ use Rattle.rules.specs.Enq.{entryFor, withTail}
 use Rattle.rules.specs.Deq.{released}
 use Rattle.history.specs.Samples.{x, y}
 use Rattle.names.specs.Named.{namesIn}
-use Rattle.queue.specs.Queues.{live, stored, Packed}
+use Rattle.queue.specs.Queues.{entriesIn, storedEntries, PackedEntries}
 use Rattle.queue.specs.declared.Queue.{Queue}
 use Rattle.entries.proofs.deq.release.Reads as release
 use Rattle.entries.proofs.enq.with_tail.Reads as with-tail
@@ -28,13 +28,13 @@ use Rattle.impostors.specs.Wrong.{RuledOut, wrong-at}
 abbrev three : List Entry
 three = entryFor 1 (shr x) ∷ entryFor 2 (shr x) ∷ entryFor 1 (shr y) ∷ []
 
-three-packed : Packed (stored three)
+three-packed : PackedEntries (storedEntries three)
 unfolding tables-open
 three-packed = record { form = refl; room = omega arith }
 
 -- the entry behind n others
 abbrev entryAt : ℕ → Queue → Entry
-entryAt n q = getD (live q) n (entryFor 0 (shr x))
+entryAt n q = getD (entriesIn q) n (entryFor 0 (shr x))
 
 -- an entry that passes the test becomes exclusive
 abbrev exclusiveIf : (Entry → Bool) → Entry → Entry
@@ -43,77 +43,79 @@ exclusiveIf test e = record { task = e .task; exclusive = test e || e .exclusive
 -- every entry for the names goes, whoever's it is: task 1 gives x back, and 2 loses it too
 pub release-from-everybody :
     RuledOut (λ k. fits-Queue ⊗ fits-TaskNumber ⊗ fits-NameList ⊗ fits-end) release.Pre release.Post
-    (λ k a. stored (keep (λ (e : Entry). not (some (sameName (e .name)) (namesOf (namesIn (a .1 .1 .0)))))
-    (live (a .0))))
+    (λ k a. storedEntries (keep (λ (e : Entry). not (some (sameName (e .name)) (namesOf (namesIn (a .1 .1 .0)))))
+    (entriesIn (a .0))))
 unfolding tables-open
 release-from-everybody =
-    wrong-at tt (stored three, (task 1, (listOf (shr x ∷ []), tt))) refl (three-packed, omega arith)
-    (λ q. not (hasEntry (live q) 2 x)) refl refl
+    wrong-at tt (storedEntries three, (task 1, (listOf (shr x ∷ []), tt))) refl (three-packed, omega arith)
+    (λ q. not (hasEntry (entriesIn q) 2 x)) refl refl
 
 -- only the first name is given back: of x and y, x
 pub release-first-name-only :
     RuledOut (λ k. fits-Queue ⊗ fits-TaskNumber ⊗ fits-NameList ⊗ fits-end) release.Pre release.Post
-    (λ k a. stored (released (a .1 .0 .0) (take 1 (namesOf (namesIn (a .1 .1 .0)))) (live (a .0))))
+    (λ k a. storedEntries (released (a .1 .0 .0) (take 1 (namesOf (namesIn (a .1 .1 .0)))) (entriesIn (a .0))))
 unfolding tables-open
 release-first-name-only =
-    wrong-at tt (stored three, (task 1, (listOf (shr x ∷ shr y ∷ []), tt))) refl (three-packed, omega arith)
-    (λ q. hasEntry (live q) 1 y) refl refl
+    wrong-at tt (storedEntries three, (task 1, (listOf (shr x ∷ shr y ∷ []), tt))) refl (three-packed, omega arith)
+    (λ q. hasEntry (entriesIn q) 1 y) refl refl
 
 -- all that the caller has goes: task 1 gives x back, and loses y too
 pub release-all-of-the-caller :
     RuledOut (λ k. fits-Queue ⊗ fits-TaskNumber ⊗ fits-NameList ⊗ fits-end) release.Pre release.Post
-    (λ k a. stored (keep (λ (e : Entry). not (ofTask (a .1 .0 .0) e)) (live (a .0))))
+    (λ k a. storedEntries (keep (λ (e : Entry). not (ofTask (a .1 .0 .0) e)) (entriesIn (a .0))))
 unfolding tables-open
 release-all-of-the-caller =
-    wrong-at tt (stored three, (task 1, (listOf (shr x ∷ []), tt))) refl (three-packed, omega arith)
-    (λ q. not (hasEntry (live q) 1 y)) refl refl
+    wrong-at tt (storedEntries three, (task 1, (listOf (shr x ∷ []), tt))) refl (three-packed, omega arith)
+    (λ q. not (hasEntry (entriesIn q) 1 y)) refl refl
 
 -- the new entries come to the front: 2 asks for y behind task 1
 pub with-tail-at-the-front :
     RuledOut (λ k. fits-Queue ⊗ fits-TaskNumber ⊗ fits-NameList ⊗ fits-end) with-tail.Pre with-tail.Post
-    (λ k a. stored (map (entryFor (a .1 .0 .0)) (namesIn (a .1 .1 .0) .asks) ++ live (a .0)))
+    (λ k a. storedEntries (map (entryFor (a .1 .0 .0)) (namesIn (a .1 .1 .0) .asks) ++ entriesIn (a .0)))
 unfolding tables-open
 with-tail-at-the-front =
-    wrong-at tt (stored three, (task 2, (listOf (shr y ∷ []), tt))) refl (three-packed, omega arith, omega arith, refl)
+    wrong-at tt (storedEntries three, (task 2, (listOf (shr y ∷ []), tt))) refl
+    (three-packed, omega arith, omega arith, refl)
     (λ q. eqb (entryAt 0 q .task) 2) refl refl
 
 -- every entry is shared: 2 asks for y exclusive
 pub with-tail-all-shared :
     RuledOut (λ k. fits-Queue ⊗ fits-TaskNumber ⊗ fits-NameList ⊗ fits-end) with-tail.Pre with-tail.Post
-    (λ k a. stored (live (a .0)
+    (λ k a. storedEntries (entriesIn (a .0)
     ++ map (λ (w : Ask). entryFor (a .1 .0 .0) (shr (w .name))) (namesIn (a .1 .1 .0) .asks)))
 unfolding tables-open
 with-tail-all-shared =
-    wrong-at tt (stored three, (task 2, (listOf (exc y ∷ []), tt))) refl (three-packed, omega arith, omega arith, refl)
+    wrong-at tt (storedEntries three, (task 2, (listOf (exc y ∷ []), tt))) refl
+    (three-packed, omega arith, omega arith, refl)
     (λ q. not (entryAt 3 q .exclusive)) refl refl
 
--- the entries for the names become exclusive, whoever's they are: task 1 asks for x, and 2's entry becomes exclusive
--- too
+-- the entries for the names become exclusive, whoever's they
+-- are: task 1 asks for x, and 2's entry becomes exclusive too
 pub made-exclusive-for-everybody :
     RuledOut (λ k. fits-Queue ⊗ fits-TaskNumber ⊗ fits-NameList ⊗ fits-end) made-exclusive.Pre made-exclusive.Post
-    (λ k a. stored (map (exclusiveIf (λ (e : Entry). some (sameName (e .name)) (namesOf (namesIn (a .1 .1 .0)))))
-    (live (a .0))))
+    (λ k a. storedEntries (map (exclusiveIf (λ (e : Entry). some (sameName (e .name)) (namesOf (namesIn (a .1 .1 .0)))))
+    (entriesIn (a .0))))
 unfolding tables-open
 made-exclusive-for-everybody =
-    wrong-at tt (stored three, (task 1, (listOf (exc x ∷ []), tt))) refl (three-packed, omega arith)
+    wrong-at tt (storedEntries three, (task 1, (listOf (exc x ∷ []), tt))) refl (three-packed, omega arith)
     (λ q. entryAt 1 q .exclusive) refl refl
 
 -- all that the caller has becomes exclusive: task 1 asks for x, and its entry for y becomes
 -- exclusive too
 pub made-exclusive-every-name :
     RuledOut (λ k. fits-Queue ⊗ fits-TaskNumber ⊗ fits-NameList ⊗ fits-end) made-exclusive.Pre made-exclusive.Post
-    (λ k a. stored (map (exclusiveIf (ofTask (a .1 .0 .0))) (live (a .0))))
+    (λ k a. storedEntries (map (exclusiveIf (ofTask (a .1 .0 .0))) (entriesIn (a .0))))
 unfolding tables-open
 made-exclusive-every-name =
-    wrong-at tt (stored three, (task 1, (listOf (exc x ∷ []), tt))) refl (three-packed, omega arith)
+    wrong-at tt (storedEntries three, (task 1, (listOf (exc x ∷ []), tt))) refl (three-packed, omega arith)
     (λ q. entryAt 2 q .exclusive) refl refl
 
 -- the names are released and queued for again: task 1 asks for x, and is no longer first
 pub made-exclusive-at-the-tail :
     RuledOut (λ k. fits-Queue ⊗ fits-TaskNumber ⊗ fits-NameList ⊗ fits-end) made-exclusive.Pre made-exclusive.Post
-    (λ k a. stored (withTail (released (a .1 .0 .0) (namesOf (namesIn (a .1 .1 .0))) (live (a .0)))
+    (λ k a. storedEntries (withTail (released (a .1 .0 .0) (namesOf (namesIn (a .1 .1 .0))) (entriesIn (a .0)))
     (a .1 .0 .0) (namesIn (a .1 .1 .0))))
 unfolding tables-open
 made-exclusive-at-the-tail =
-    wrong-at tt (stored three, (task 1, (listOf (exc x ∷ []), tt))) refl (three-packed, omega arith)
+    wrong-at tt (storedEntries three, (task 1, (listOf (exc x ∷ []), tt))) refl (three-packed, omega arith)
     (λ q. eqb (entryAt 0 q .task) 2) refl refl

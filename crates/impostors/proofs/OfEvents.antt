@@ -1,4 +1,4 @@
--- Wrong answers that the contracts of `events` rule out. Assumes nothing.
+-- Wrong answers that the contracts of `events` rule out.
 use Prim.Native.Nat.{ℕ, _+_, _-_, _*_}
 use mathlib.Core.Path.{refl}
 use mathlib.Core.Bool.{false, not, cond, _&&_, _||_}
@@ -26,7 +26,8 @@ use Rattle.events.proofs.with_ecb.Reads as with-ecb
 use Rattle.events.proofs.completed.Reads as completed
 use Rattle.events.proofs.unwaited_all.Reads as unwaited-all
 use Rattle.events.proofs.waited_on.Reads as waited-on
-use Rattle.impostors.specs.Fitting.{_⊗_, fits-Ecb, fits-EcbNumber, fits-Events, fits-TaskNumber, fits-end, fits-u32}
+use Rattle.impostors.specs.Fitting.{_⊗_, fits-Ecb, fits-EcbNumber, fits-Events, fits-TaskNumber, fits-end}
+use Rattle.impostors.specs.Fitting.{fits-u32}
 use Rattle.impostors.specs.Opened.{tables-open}
 use Rattle.impostors.specs.Wrong.{RuledOut, wrong-at, told-apart}
 use Rattle.impostors.specs.Samples.{task, ecb}
@@ -63,7 +64,8 @@ at-64-is-ecb-63 = wrong-at tt (lastComplete, (ecb 64, tt)) refl tt (λ x. x .com
 
 -- bits 0 and 1 are exchanged: a complete ECB shows as waited on
 pub word-bits-exchanged : RuledOut (λ k. fits-Ecb ⊗ fits-end) word.Pre word.Post
-    (λ k a. cond (waitBit (a .0)) (highestPostCode + 1) 0 + (cond (a .0 .complete) (2 * (highestPostCode + 1)) 0 + a .0 .code))
+    (λ k a. cond (waitBit (a .0)) (highestPostCode + 1) 0 +
+    (cond (a .0 .complete) (2 * (highestPostCode + 1)) 0 + a .0 .code))
 unfolding tables-open
 word-bits-exchanged = wrong-at tt (completedOf 7, tt) refl tt (eqb 0x8000_0007) refl refl
 
@@ -134,7 +136,8 @@ with-ecb-one-before =
 -- a complete ECB stays as it is, here too: ECB 1 is not cleared
 pub with-ecb-not-when-complete :
     RuledOut (λ k. fits-Events ⊗ fits-EcbNumber ⊗ fits-Ecb ⊗ fits-end) with-ecb.Pre with-ecb.Post
-    (λ k a. pick (ecbAt (a .0 .ecbs) (a .1 .0 .0) .complete) (a .0) (eventsOf (set (a .0 .ecbs) (a .1 .0 .0) (a .1 .1 .0))))
+    (λ k a. pick (ecbAt (a .0 .ecbs) (a .1 .0 .0) .complete) (a .0)
+    (eventsOf (set (a .0 .ecbs) (a .1 .0 .0) (a .1 .1 .0))))
 unfolding tables-open
 with-ecb-not-when-complete =
     wrong-at tt (events (noEcb ∷ completedOf 7 ∷ []), (ecb 1, (noEcb, tt))) refl (omega arith)

@@ -1,4 +1,4 @@
--- Wrong answers that the contracts of `family` rule out. Assumes nothing.
+-- Wrong answers that the contracts of `family` rule out.
 use Prim.Native.Nat.{ℕ, _+_, _-_}
 use mathlib.Core.Path.{refl}
 use mathlib.Core.Bool.{Bool, not, _&&_, _||_}
@@ -14,6 +14,7 @@ use Rattle.kinds.specs.declared.tasks.Task.{Task}
 use Rattle.kinds.specs.declared.tasks.Condition.{Condition}
 use Rattle.kinds.specs.declared.tasks.Condition.the-variants.{Free, Ready}
 use Rattle.kinds.specs.declared.tasks.MaybeEcb.the-variants.{NoEcb}
+use Rattle.rules.specs.Table.{rowOf}
 use Rattle.rules.specs.Family.{place, withPlace, conditionOf, used, directSubtask, below, chain}
 use Rattle.laws.specs.Wiping.{inUse}
 use Rattle.family.specs.Families.{familyOf}
@@ -33,7 +34,7 @@ use Rattle.impostors.specs.Parts.{lastBest, family, first, ready, waitin
 
 -- a ready daughter of task 1 with these priorities
 abbrev prior : ℕ → ℕ → Task
-prior limit dispatching = record { condition = Ready; mother = task 1; limit = limit; dispatching = dispatching; ecb = NoEcb }
+prior limit dispatching = rowOf Ready 1 limit dispatching NoEcb
 
 -- the number is the count of the tasks in use, and one more: with 1 and 3 in use it is 3 and not 2
 pub lowest-free-counts-the-tasks :
@@ -64,7 +65,8 @@ dispatched-the-last-among-equals = wrong-at tt (family (first ∷ ready 1 ∷ []
 -- the first of those who may run that none of them is above, by this priority
 abbrev bestBy : (Condition → Bool) → (Task → ℕ) → List Task → ℕ
 bestBy may by ts =
-    firstAt (λ (x : Task). may (x .condition) && every (λ (y : Task). not (may (y .condition)) || leb (by y) (by x)) ts) 1 ts
+    firstAt (λ (x : Task). may (x .condition)
+    && every (λ (y : Task). not (may (y .condition)) || leb (by y) (by x)) ts) 1 ts
 
 -- the highest priority among all who are live: task 1, which waits, and not 2
 pub dispatched-a-waiting-task :
@@ -82,7 +84,8 @@ dispatched-by-the-limit = wrong-at tt (family (first ∷ prior 170 170 ∷ []), 
 
 -- the places are free and not zero: each has task 1 for its mother
 pub empty-with-mothers : RuledOut (λ k. fits-end) empty.Pre empty.Post
-    (λ k a. familyOf (replicate highestTask (record { condition = Free; mother = task 1; limit = 0; dispatching = 0; ecb = NoEcb })))
+    (λ k a. familyOf (replicate highestTask
+    (record { condition = Free; mother = task 1; limit = 0; dispatching = 0; ecb = NoEcb })))
 unfolding tables-open
 empty-with-mothers = wrong-at tt tt refl tt (λ f. eqb (place (f .places) 2 .mother .0) 1) refl refl
 
@@ -139,7 +142,8 @@ with-place-one-behind =
 -- a place in use is not written over: task 2, which is to be freed, stays
 pub with-place-only-where-free :
     RuledOut (λ k. fits-Family ⊗ fits-TaskNumber ⊗ fits-Task ⊗ fits-end) with-place.Pre with-place.Post
-    (λ k a. pick (used (a .0 .places) (a .1 .0 .0)) (a .0) (familyOf (withPlace (a .0 .places) (a .1 .0 .0) (a .1 .1 .0))))
+    (λ k a. pick (used (a .0 .places) (a .1 .0 .0)) (a .0)
+    (familyOf (withPlace (a .0 .places) (a .1 .0 .0) (a .1 .1 .0))))
 unfolding tables-open
 with-place-only-where-free =
     wrong-at tt (family (first ∷ ready 1 ∷ []), (task 2, (noTask, tt))) refl (omega arith, omega arith)

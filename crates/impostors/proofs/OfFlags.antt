@@ -1,4 +1,4 @@
--- Wrong answers that the contracts of `flags` rule out. Assumes nothing.
+-- Wrong answers that the contracts of `flags` rule out.
 use mathlib.Core.Path.{refl}
 use mathlib.Core.Bool.{Bool, true, false, not, _&&_}
 use mathlib.Core.List.{List, [], _∷_}
@@ -14,7 +14,7 @@ use Rattle.rules.specs.Table.{shr, exc}
 use Rattle.rules.specs.Enq.{entryFor}
 use Rattle.history.specs.Samples.{x}
 use Rattle.names.specs.Named.{namesIn}
-use Rattle.queue.specs.Queues.{live, stored}
+use Rattle.queue.specs.Queues.{entriesIn, storedEntries}
 use Rattle.flags.specs.Flagging.{flagsOf, someSet, allSet}
 use Rattle.flags.specs.declared.Flags.{Flags}
 use Rattle.flags.proofs.some_set.Reads as some-set
@@ -22,7 +22,8 @@ use Rattle.flags.proofs.all_set.Reads as all-set
 use Rattle.flags.proofs.entered.Reads as entered
 use Rattle.flags.proofs.available.Reads as available
 use Rattle.flags.proofs.lead.sole.Reads as sole
-use Rattle.impostors.specs.Fitting.{_⊗_, fits-Flags, fits-NameList, fits-Queue, fits-TaskNumber, fits-end, fits-u32}
+use Rattle.impostors.specs.Fitting.{_⊗_, fits-Flags, fits-NameList, fits-Queue, fits-TaskNumber, fits-end}
+use Rattle.impostors.specs.Fitting.{fits-u32}
 use Rattle.impostors.specs.Opened.{tables-open}
 use Rattle.impostors.specs.Samples.{task, namesOf}
 use Rattle.impostors.specs.Wrong.{RuledOut, wrong-at}
@@ -66,58 +67,67 @@ all-set-of-all-16 = wrong-at tt (flags true false, (1, tt)) refl (omega arith) n
 -- anybody's entry counts: 4 asks for x
 pub entered-by-anybody :
     RuledOut (λ k. fits-Queue ⊗ fits-TaskNumber ⊗ fits-NameList ⊗ fits-end) entered.Pre entered.Post
-    (λ k a. flagsOf (λ (w : Ask). some (λ (e : Entry). sameName (e .name) (w .name)) (live (a .0)))
+    (λ k a. flagsOf (λ (w : Ask). some (λ (e : Entry). sameName (e .name) (w .name)) (entriesIn (a .0)))
     (namesIn (a .1 .1 .0)))
 unfolding tables-open
 entered-by-anybody =
-    wrong-at tt (stored waited, (task 4, (namesOf (shr x ∷ []), tt))) refl (omega arith, omega arith) flag refl refl
+    wrong-at tt (storedEntries waited, (task 4, (namesOf (shr x ∷ []), tt))) refl
+    (omega arith, omega arith) flag refl refl
 
 -- only an entry that has control counts: 3, who waits for x, asks for it again
 pub entered-by-owners-only :
     RuledOut (λ k. fits-Queue ⊗ fits-TaskNumber ⊗ fits-NameList ⊗ fits-end) entered.Pre entered.Post
-    (λ k a. flagsOf (λ (w : Ask). hasEntry (holding [] (live (a .0))) (a .1 .0 .0) (w .name)) (namesIn (a .1 .1 .0)))
+    (λ k a. flagsOf (λ (w : Ask). hasEntry (holding [] (entriesIn (a .0))) (a .1 .0 .0) (w .name))
+    (namesIn (a .1 .1 .0)))
 unfolding tables-open
 entered-by-owners-only =
-    wrong-at tt (stored waited, (task 3, (namesOf (exc x ∷ []), tt))) refl (omega arith, omega arith)
+    wrong-at tt (storedEntries waited, (task 3, (namesOf (exc x ∷ []), tt))) refl (omega arith, omega arith)
     (λ f. not (flag f)) refl refl
 
 -- only an entry in the mode that is asked for counts: task 1, who shares x, asks for it exclusive
 pub entered-in-that-mode :
     RuledOut (λ k. fits-Queue ⊗ fits-TaskNumber ⊗ fits-NameList ⊗ fits-end) entered.Pre entered.Post
-    (λ k a. flagsOf (λ (w : Ask). some (λ (e : Entry). isFor (a .1 .0 .0) (w .name) e && alike (e .exclusive) (w .exclusive))
-    (live (a .0)))
+    (λ k a. flagsOf (λ (w : Ask). some (λ (e : Entry). isFor (a .1 .0 .0) (w .name) e
+    && alike (e .exclusive) (w .exclusive))
+    (entriesIn (a .0)))
     (namesIn (a .1 .1 .0)))
 unfolding tables-open
 entered-in-that-mode =
-    wrong-at tt (stored waited, (task 1, (namesOf (exc x ∷ []), tt))) refl (omega arith, omega arith)
+    wrong-at tt (storedEntries waited, (task 1, (namesOf (exc x ∷ []), tt))) refl (omega arith, omega arith)
     (λ f. not (flag f)) refl refl
 
 -- a shared request joins the shared owners past an exclusive entry that waits
 pub available-past-a-waiting-entry : RuledOut (λ k. fits-Queue ⊗ fits-NameList ⊗ fits-end) available.Pre available.Post
-    (λ k a. flagsOf (λ (w : Ask). granted (owners (w .name) (live (a .0))) (w .exclusive)) (namesIn (a .1 .0)))
+    (λ k a. flagsOf (λ (w : Ask). granted (owners (w .name) (entriesIn (a .0))) (w .exclusive)) (namesIn (a .1 .0)))
 unfolding tables-open
 available-past-a-waiting-entry =
-    wrong-at tt (stored waited, (namesOf (shr x ∷ []), tt)) refl (omega arith, omega arith) flag refl refl
+    wrong-at tt (storedEntries waited, (namesOf (shr x ∷ []), tt)) refl (omega arith, omega arith) flag refl refl
 
 -- every request is taken for shared: tasks 1 and 2 share x, and an exclusive request comes
 pub available-to-exclusive-requests : RuledOut (λ k. fits-Queue ⊗ fits-NameList ⊗ fits-end) available.Pre available.Post
-    (λ k a. flagsOf (λ (w : Ask). granted (queueOf (w .name) (live (a .0))) false) (namesIn (a .1 .0)))
+    (λ k a. flagsOf (λ (w : Ask). granted (queueOf (w .name) (entriesIn (a .0))) false) (namesIn (a .1 .0)))
 unfolding tables-open
 available-to-exclusive-requests =
-    wrong-at tt (stored (take 2 waited), (namesOf (exc x ∷ []), tt)) refl (omega arith, omega arith) flag refl refl
+    wrong-at tt (storedEntries (take 2 waited), (namesOf (exc x ∷ []), tt)) refl
+    (omega arith, omega arith) flag refl refl
 
 -- only the first owner is looked at: task 1, beside whom 2 owns x
 pub sole-by-the-first-owner : RuledOut (λ k. fits-Queue ⊗ fits-TaskNumber ⊗ fits-NameList ⊗ fits-end) sole.Pre sole.Post
-    (λ k a. flagsOf (λ (w : Ask). every (ofTask (a .1 .0 .0)) (take 1 (owners (w .name) (live (a .0)))))
+    (λ k a. flagsOf (λ (w : Ask). every (ofTask (a .1 .0 .0)) (take 1 (owners (w .name) (entriesIn (a .0)))))
     (namesIn (a .1 .1 .0)))
 unfolding tables-open
 sole-by-the-first-owner =
-    wrong-at tt (stored waited, (task 1, (namesOf (exc x ∷ []), tt))) refl (omega arith, omega arith) flag refl refl
+    wrong-at tt (storedEntries waited, (task 1, (namesOf (exc x ∷ []), tt))) refl
+    (omega arith, omega arith) flag refl refl
 
 -- whoever waits is taken for an owner: task 1 owns x, and 3 waits for it
 pub sole-in-the-whole-queue : RuledOut (λ k. fits-Queue ⊗ fits-TaskNumber ⊗ fits-NameList ⊗ fits-end) sole.Pre sole.Post
-    (λ k a. flagsOf (λ (w : Ask). every (ofTask (a .1 .0 .0)) (queueOf (w .name) (live (a .0)))) (namesIn (a .1 .1 .0)))
+    (λ k a. flagsOf (λ (w : Ask). every (ofTask (a .1 .0 .0)) (queueOf (w .name) (entriesIn (a .0))))
+    (namesIn (a .1 .1 .0)))
 unfolding tables-open
 sole-in-the-whole-queue =
-    wrong-at tt (stored (entryFor 1 (shr x) ∷ entryFor 3 (exc x) ∷ []), (task 1, (namesOf (exc x ∷ []), tt))) refl
+    wrong-at tt (
+      storedEntries (entryFor 1 (shr x) ∷ entryFor 3 (exc x) ∷ []),
+      (task 1, (namesOf (exc x ∷ []), tt)),
+    ) refl
     (omega arith, omega arith) (λ f. not (flag f)) refl refl

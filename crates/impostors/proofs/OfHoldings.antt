@@ -1,4 +1,4 @@
--- Wrong answers that the contracts of `holdings` rule out. Assumes nothing.
+-- Wrong answers that the contracts of `holdings` rule out.
 use Prim.Native.Nat.{ℕ}
 use mathlib.Core.Path.{refl}
 use mathlib.Core.Bool.{Bool, true, not}
@@ -15,7 +15,7 @@ use Rattle.rules.specs.HandCases.{area}
 use Rattle.history.specs.Samples.{start}
 use Rattle.family.specs.Families.{familyOf}
 use Rattle.family.specs.declared.Family.{Family}
-use Rattle.storage.specs.Stored.{live as liveAreas, stored, Packed}
+use Rattle.storage.specs.Stored.{areasIn, storedAreas, PackedAreas}
 use Rattle.storage.specs.Kept.{stored-packed}
 use Rattle.holdings.proofs.owners_good.Reads as owners-good
 use Rattle.holdings.proofs.sweep.Reads as sweep
@@ -38,7 +38,7 @@ ofTask2 = area 0 8 5 2 ∷ []
 abbrev ofStep : List Area
 ofStep = area 0 8 0 0 ∷ []
 
-packed-one : (x : Area) → Packed (stored (x ∷ []))
+packed-one : (x : Area) → PackedAreas (storedAreas (x ∷ []))
 packed-one x = stored-packed (x ∷ []) _ refl (omega arith)
 
 -- an area of subpool 0 is the step's, any other is judged by its owner; the same, but subpool 0 may be anyone's
@@ -51,42 +51,45 @@ staysAs f ts y = pick (eqb (y .subpool) 0) true (f ts (y .owner .0))
 -- an ended task may own one
 pub owners-good-of-an-ended-task :
     RuledOut (λ k. fits-Storage ⊗ fits-Family ⊗ fits-end) owners-good.Pre owners-good.Post
-    (λ k a. every (ownedAs used (a .1 .0 .places)) (liveAreas (a .0)))
+    (λ k a. every (ownedAs used (a .1 .0 .places)) (areasIn (a .0)))
 unfolding tables-open
-owners-good-of-an-ended-task = wrong-at tt (stored ofTask2, (ended, tt)) refl (omega arith) (λ b. b) refl refl
+owners-good-of-an-ended-task = wrong-at tt (storedAreas ofTask2, (ended, tt)) refl (omega arith) (λ b. b) refl refl
 
 -- an area of subpool 0 may be a task's
 pub owners-good-of-subpool-0 :
     RuledOut (λ k. fits-Storage ⊗ fits-Family ⊗ fits-end) owners-good.Pre owners-good.Post
-    (λ k a. every (staysAs live (a .1 .0 .places)) (liveAreas (a .0)))
+    (λ k a. every (staysAs live (a .1 .0 .places)) (areasIn (a .0)))
 unfolding tables-open
-owners-good-of-subpool-0 = wrong-at tt (stored (area 0 8 0 1 ∷ []), (ended, tt)) refl (omega arith) (λ b. b) refl refl
+owners-good-of-subpool-0 =
+    wrong-at tt (storedAreas (area 0 8 0 1 ∷ []), (ended, tt)) refl (omega arith) (λ b. b) refl refl
 
 -- an area of the step is refused, since no task owns it
 pub owners-good-not-of-the-step :
     RuledOut (λ k. fits-Storage ⊗ fits-Family ⊗ fits-end) owners-good.Pre owners-good.Post
-    (λ k a. every (λ (y : Area). live (a .1 .0 .places) (y .owner .0)) (liveAreas (a .0)))
+    (λ k a. every (λ (y : Area). live (a .1 .0 .places) (y .owner .0)) (areasIn (a .0)))
 unfolding tables-open
-owners-good-not-of-the-step = wrong-at tt (stored ofStep, (ended, tt)) refl (omega arith) not refl refl
+owners-good-not-of-the-step = wrong-at tt (storedAreas ofStep, (ended, tt)) refl (omega arith) not refl refl
 
 -- areas of subpool 0 go too
 pub sweep-subpool-0-too :
     RuledOut (λ k. fits-Storage ⊗ fits-Family ⊗ fits-end) sweep.Pre sweep.Post
-    (λ k a. stored (keep (λ (y : Area). live (a .1 .0 .places) (y .owner .0)) (liveAreas (a .0))))
+    (λ k a. storedAreas (keep (λ (y : Area). live (a .1 .0 .places) (y .owner .0)) (areasIn (a .0))))
 unfolding tables-open
-sweep-subpool-0-too = wrong-at tt (stored ofStep, (ended, tt)) refl (packed-one _) (λ s. eqb (s .count) 0) refl refl
+sweep-subpool-0-too =
+    wrong-at tt (storedAreas ofStep, (ended, tt)) refl (packed-one _) (λ s. eqb (s .count) 0) refl refl
 
 -- those of an ended task stay
 pub sweep-not-of-the-ended :
     RuledOut (λ k. fits-Storage ⊗ fits-Family ⊗ fits-end) sweep.Pre sweep.Post
-    (λ k a. stored (keep (staysAs used (a .1 .0 .places)) (liveAreas (a .0))))
+    (λ k a. storedAreas (keep (staysAs used (a .1 .0 .places)) (areasIn (a .0))))
 unfolding tables-open
-sweep-not-of-the-ended = wrong-at tt (stored ofTask2, (ended, tt)) refl (packed-one _) (λ s. eqb (s .count) 1) refl refl
+sweep-not-of-the-ended =
+    wrong-at tt (storedAreas ofTask2, (ended, tt)) refl (packed-one _) (λ s. eqb (s .count) 1) refl refl
 
 -- those of a task that waits go too
 pub sweep-of-the-waiting-too :
     RuledOut (λ k. fits-Storage ⊗ fits-Family ⊗ fits-end) sweep.Pre sweep.Post
-    (λ k a. stored (keep (staysAs (λ ts n. isReady (conditionOf ts n)) (a .1 .0 .places)) (liveAreas (a .0))))
+    (λ k a. storedAreas (keep (staysAs (λ ts n. isReady (conditionOf ts n)) (a .1 .0 .places)) (areasIn (a .0))))
 unfolding tables-open
 sweep-of-the-waiting-too =
-    wrong-at tt (stored ofTask2, (waiting, tt)) refl (packed-one _) (λ s. eqb (s .count) 0) refl refl
+    wrong-at tt (storedAreas ofTask2, (waiting, tt)) refl (packed-one _) (λ s. eqb (s .count) 0) refl refl

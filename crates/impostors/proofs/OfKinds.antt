@@ -1,24 +1,25 @@
--- Wrong answers that the contracts of `kinds` rule out. Assumes nothing.
+-- Wrong answers that the contracts of `kinds` rule out.
 use Prim.Native.Nat.{ℕ, _+_, _-_, _%_}
 use mathlib.Core.Path.{_≡_, refl}
 use mathlib.Core.Bool.{Bool, true, false, not, cond, _&&_, _||_}
 use lib.Dec.{eqb, leb, ltb}
 use lib.IntN.{pos, negℤ}
 use lib.Signed.{leZ, ltZ}
-use Rattle.kinds.specs.Limits.{jobStepTask, highestTask, highestEcb, highestAddress, region, doubleword, highestPriority}
+use Rattle.kinds.specs.Limits.{jobStepTask, highestTask, highestEcb, highestAddress, region, doubleword}
+use Rattle.kinds.specs.Limits.{highestPriority}
 use Rattle.kinds.specs.Limits.{highestEndCode, highestPostCode, longestList, longestMinor, highestSubpool}
 use Rattle.kinds.specs.Ranges.{between, taskChecked, ecbChecked}
-use Rattle.kinds.specs.Replies.{faultNumber, numberOf, besidesOf}
+use Rattle.kinds.specs.Replies.{faultNumber, numberOf, besidesIn, besidesOf}
 use Rattle.kinds.specs.Tasks.{isFree, isLive, isReady, inResourceWait, inEcbWait, waits, withCondition}
 use Rattle.kinds.specs.declared.numbers.TaskChecked.{TaskChecked}
 use Rattle.kinds.specs.declared.numbers.TaskChecked.the-variants.{GoodTask, BadTask}
 use Rattle.kinds.specs.declared.numbers.EcbChecked.{EcbChecked}
 use Rattle.kinds.specs.declared.numbers.EcbChecked.the-variants.{GoodEcb, BadEcb}
-use Rattle.kinds.specs.declared.numbers.Place.{Place}
-use Rattle.kinds.specs.declared.numbers.Place.the-variants.{At, Nowhere}
+use Rattle.kinds.specs.declared.numbers.MaybeAddress.{MaybeAddress}
+use Rattle.kinds.specs.declared.numbers.MaybeAddress.the-variants.{At, Nowhere}
 use Rattle.kinds.specs.declared.replies.Refusal.the-variants.{NotLive}
 use Rattle.kinds.specs.declared.replies.Fault.the-variants.{DuplicateEnq, AlreadyWaitedOn, NotSubtask}
-use Rattle.kinds.specs.declared.replies.Reply.the-variants.{Done, Four, Refused}
+use Rattle.kinds.specs.declared.replies.Reply.the-variants.{Attached, Got, Dispatched, Four, Refused}
 use Rattle.kinds.specs.declared.tasks.Condition.{Condition}
 use Rattle.kinds.specs.declared.tasks.Condition.the-variants.{Free, Ready, ResourceWait, EcbWait, Ended}
 use Rattle.kinds.specs.declared.tasks.MaybeEcb.the-variants.{NoEcb, Named}
@@ -51,14 +52,17 @@ use Rattle.kinds.proofs.tasks.Task.with_condition.Reads as Task-with-condition
 use Rattle.kinds.proofs.tasks.Task.priority_good.Reads as Task-priority-good
 use Rattle.kinds.proofs.tasks.Task.dpmod_good.Reads as Task-dpmod-good
 use Rattle.kinds.proofs.tasks.Task.code_good.Reads as Task-code-good
-use Rattle.impostors.specs.Fitting.{_⊗_, fits-Address, fits-Condition, fits-EcbNumber, fits-Fault, fits-Reply, fits-Task, fits-TaskNumber, fits-end, fits-i16, fits-u16, fits-u32, fits-u8}
+use Rattle.impostors.specs.Fitting.{_⊗_, fits-Address, fits-Condition, fits-EcbNumber, fits-Fault, fits-Reply}
+use Rattle.impostors.specs.Fitting.{fits-Task, fits-TaskNumber, fits-end, fits-i16, fits-u16, fits-u32, fits-u8}
 use Rattle.impostors.specs.Opened.{tables-open}
 use Rattle.impostors.specs.Samples.{task, ecb}
 use Rattle.impostors.specs.Wrong.{RuledOut, wrong-at}
 use Rattle.impostors.specs.Parts.{address}
+use Rattle.impostors.specs.Answers.{kindOf}
 
 -- A TEST that says yes of one thing given and has to say no, or no and has to say yes
-module _ {X : Type 0} {E : Unit {0} → Type 0} {T d f : (k : Unit {0}) → X × Unit {0} → Bool} (x : X) (t : T tt (x, tt) ≡ true) where
+module _ {X : Type 0} {E : Unit {0} → Type 0} {T d f : (k : Unit {0}) → X × Unit {0} → Bool} (x : X)
+    (t : T tt (x, tt) ≡ true) where
   passes : f tt (x, tt) ≡ true → d tt (x, tt) ≡ false → RuledOut {E = E} T (λ k a. Unit {0}) (λ k a r e. r ≡ d k a) f
   passes h n = wrong-at tt (x, tt) t tt (λ b. b) h n
 
@@ -286,10 +290,10 @@ pub Address-is-good-one-above-passes : RuledOut (λ k. fits-Address ⊗ fits-end
 Address-is-good-one-above-passes = passes (address 131072) refl refl refl
 
 -- an address made where a test passes
-abbrev addressIf : (ℕ → Bool) → ℕ → Place
+abbrev addressIf : (ℕ → Bool) → ℕ → MaybeAddress
 addressIf good n = cond (good n) (At (address n)) Nowhere
 
-abbrev isAddress : Place → Bool
+abbrev isAddress : MaybeAddress → Bool
 isAddress (At n) = true
 isAddress Nowhere = false
 
@@ -334,16 +338,21 @@ Reply-number-four-is-0 = wrong-at tt (Four, tt) refl tt (λ n. eqb n 0) refl ref
 -- what is done is answered by its value, in place of 0
 pub Reply-number-the-value : RuledOut (λ k. fits-Reply ⊗ fits-end) Reply-number.Pre Reply-number.Post
     (λ k a. numberOf (a .0) + besidesOf (a .0))
-Reply-number-the-value = wrong-at tt (Done 8, tt) refl tt (λ n. eqb n 8) refl refl
+Reply-number-the-value = wrong-at tt (Got (address 8), tt) refl tt (λ n. eqb n 8) refl refl
 
 -- 102 is answered as 103: a task that is not live counts as one in a wait
 pub Reply-number-102-is-103 : RuledOut (λ k. fits-Reply ⊗ fits-end) Reply-number.Pre Reply-number.Post
     (λ k a. for 103 102 (numberOf (a .0)))
 Reply-number-102-is-103 = wrong-at tt (Refused NotLive, tt) refl tt (λ n. eqb n 103) refl refl
 
+-- 0 is answered as 4 where no task is ready
+pub Reply-number-4-where-none-is-ready : RuledOut (λ k. fits-Reply ⊗ fits-end) Reply-number.Pre Reply-number.Post
+    (λ k a. cond (eqb (kindOf (besidesIn (a .0))) 3 && eqb (besidesOf (a .0)) 0) 4 (numberOf (a .0)))
+Reply-number-4-where-none-is-ready = wrong-at tt (Dispatched (task 0), tt) refl tt (λ n. eqb n 4) refl refl
+
 -- nothing is ever answered besides
 pub Reply-besides-nothing : RuledOut (λ k. fits-Reply ⊗ fits-end) Reply-besides.Pre Reply-besides.Post (λ k a. 0)
-Reply-besides-nothing = wrong-at tt (Done 8, tt) refl tt (λ n. eqb n 0) refl refl
+Reply-besides-nothing = wrong-at tt (Got (address 8), tt) refl tt (λ n. eqb n 0) refl refl
 
 -- 4 is answered with 4 besides
 pub Reply-besides-four : RuledOut (λ k. fits-Reply ⊗ fits-end) Reply-besides.Pre Reply-besides.Post
@@ -355,6 +364,16 @@ pub Reply-besides-the-refusal : RuledOut (λ k. fits-Reply ⊗ fits-end) Reply-b
     (λ k a. cond (between 100 109 (numberOf (a .0))) (numberOf (a .0)) (besidesOf (a .0)))
 unfolding tables-open
 Reply-besides-the-refusal = wrong-at tt (Refused NotLive, tt) refl tt (λ n. eqb n 102) refl refl
+
+-- only an address goes besides: not the number of a new task
+pub Reply-besides-addresses-only : RuledOut (λ k. fits-Reply ⊗ fits-end) Reply-besides.Pre Reply-besides.Post
+    (λ k a. cond (eqb (kindOf (besidesIn (a .0))) 2) (besidesOf (a .0)) 0)
+Reply-besides-addresses-only = wrong-at tt (Attached (task 2), tt) refl tt (λ n. eqb n 0) refl refl
+
+-- an address is cut to a byte, as numbers of tasks are: 264 is told as 8
+pub Reply-besides-cut-to-a-byte : RuledOut (λ k. fits-Reply ⊗ fits-end) Reply-besides.Pre Reply-besides.Post
+    (λ k a. besidesOf (a .0) % 256)
+Reply-besides-cut-to-a-byte = wrong-at tt (Got (address 264), tt) refl tt (λ n. eqb n 8) refl refl
 
 -- CONDITIONS
 

@@ -1,4 +1,4 @@
--- Wrong answers that the contracts of `lists` rule out. Assumes nothing.
+-- Wrong answers that the contracts of `lists` rule out.
 use Prim.Native.Nat.{ℕ}
 use mathlib.Core.Path.{refl}
 use mathlib.Core.Bool.{not, _&&_}

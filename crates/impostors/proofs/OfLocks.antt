@@ -1,4 +1,4 @@
--- Wrong answers that the contracts of `locks` rule out. Assumes nothing.
+-- Wrong answers that the contracts of `locks` rule out.
 use mathlib.Core.Path.{refl}
 use mathlib.Core.Bool.{not, _&&_, _||_}
 use mathlib.Core.List.{[], _∷_}
@@ -14,13 +14,13 @@ use Rattle.kinds.specs.declared.tasks.MaybeEcb.the-variants.{NoEcb, Named}
 use Rattle.kinds.specs.declared.tasks.Task.{Task}
 use Rattle.rules.specs.Control.{Entry, ofTask, hasEntry, holding, lacks}
 use Rattle.rules.specs.Family.{conditionOf, used}
-use Rattle.rules.specs.Waits.{waitsBy}
+use Rattle.rules.specs.ResourceWaits.{waitsBy}
 use Rattle.rules.specs.Table.{rowOf, exc}
 use Rattle.rules.specs.Enq.{entryFor}
 use Rattle.history.specs.Samples.{x, y}
 use Rattle.family.specs.Families.{familyOf}
 use Rattle.family.specs.declared.Family.{Family}
-use Rattle.queue.specs.Queues.{live, stored, Packed}
+use Rattle.queue.specs.Queues.{entriesIn, storedEntries, PackedEntries}
 use Rattle.locks.proofs.entries_live.Reads as entries-live
 use Rattle.locks.proofs.waits_good.Reads as waits-good
 use Rattle.locks.proofs.ending.sweep.Reads as sweep
@@ -39,79 +39,87 @@ family k = familyOf (padded highestTask noTask (rowOf Ready 0 200 150 NoEcb ∷ 
 abbrev second : Family → Condition
 second f = conditionOf (f .places) 2
 
-two-packed : Packed (stored ownerAndWaiter)
+two-packed : PackedEntries (storedEntries ownerAndWaiter)
 unfolding tables-open
 two-packed = record { form = refl; room = omega arith }
 
 -- an entry of a task that has ended passes
 pub entries-live-ended-too : RuledOut (λ k. fits-Queue ⊗ fits-Family ⊗ fits-end) entries-live.Pre entries-live.Post
-    (λ k a. every (λ (e : Entry). used (a .1 .0 .places) (e .task)) (live (a .0)))
+    (λ k a. every (λ (e : Entry). used (a .1 .0 .places) (e .task)) (entriesIn (a .0)))
 unfolding tables-open
-entries-live-ended-too = wrong-at tt (stored ownerAndWaiter, (family Ended, tt)) refl (omega arith) (λ b. b) refl refl
+entries-live-ended-too =
+    wrong-at tt (storedEntries ownerAndWaiter, (family Ended, tt)) refl (omega arith) (λ b. b) refl refl
 
--- a task that waits is not live
+-- a task that waits is not entriesIn
 pub entries-live-ready-only : RuledOut (λ k. fits-Queue ⊗ fits-Family ⊗ fits-end) entries-live.Pre entries-live.Post
-    (λ k a. every (λ (e : Entry). isReady (conditionOf (a .1 .0 .places) (e .task))) (live (a .0)))
+    (λ k a. every (λ (e : Entry). isReady (conditionOf (a .1 .0 .places) (e .task))) (entriesIn (a .0)))
 unfolding tables-open
 entries-live-ready-only =
-    wrong-at tt (stored ownerAndWaiter, (family ResourceWait, tt)) refl (omega arith) not refl refl
+    wrong-at tt (storedEntries ownerAndWaiter, (family ResourceWait, tt)) refl (omega arith) not refl refl
 
 -- a task may wait that lacks nothing: 2 waits, and there is no entry
 pub waits-good-waiting-for-nothing : RuledOut (λ k. fits-Queue ⊗ fits-Family ⊗ fits-end) waits-good.Pre waits-good.Post
-    (λ k a. everyAt (λ n (t : Task). inResourceWait (t .condition) || not (lacks n (live (a .0)))) 1 (a .1 .0 .places))
+    (λ k a. everyAt (λ n (t : Task). inResourceWait (t .condition) || not (lacks n (entriesIn (a .0)))) 1
+    (a .1 .0 .places))
 unfolding tables-open
 waits-good-waiting-for-nothing =
-    wrong-at tt (stored [], (family ResourceWait, tt)) refl (omega arith) (λ b. b) refl refl
+    wrong-at tt (storedEntries [], (family ResourceWait, tt)) refl (omega arith) (λ b. b) refl refl
 
 -- a task may go on that lacks control: 2 is ready
 pub waits-good-ready-without-control :
     RuledOut (λ k. fits-Queue ⊗ fits-Family ⊗ fits-end) waits-good.Pre waits-good.Post
-    (λ k a. everyAt (λ n (t : Task). not (inResourceWait (t .condition)) || lacks n (live (a .0))) 1 (a .1 .0 .places))
+    (λ k a. everyAt (λ n (t : Task). not (inResourceWait (t .condition)) || lacks n (entriesIn (a .0))) 1
+    (a .1 .0 .places))
 unfolding tables-open
 waits-good-ready-without-control =
-    wrong-at tt (stored ownerAndWaiter, (family Ready, tt)) refl (omega arith) (λ b. b) refl refl
+    wrong-at tt (storedEntries ownerAndWaiter, (family Ready, tt)) refl (omega arith) (λ b. b) refl refl
 
 -- an ECB wait is taken for a resource wait: 2 is in one, and lacks nothing
 pub waits-good-of-either-kind : RuledOut (λ k. fits-Queue ⊗ fits-Family ⊗ fits-end) waits-good.Pre waits-good.Post
-    (λ k a. everyAt (λ n (t : Task). alike (waits (t .condition)) (lacks n (live (a .0)))) 1 (a .1 .0 .places))
+    (λ k a. everyAt (λ n (t : Task). alike (waits (t .condition)) (lacks n (entriesIn (a .0)))) 1 (a .1 .0 .places))
 unfolding tables-open
-waits-good-of-either-kind = wrong-at tt (stored [], (family (EcbWait 1), tt)) refl (omega arith) not refl refl
+waits-good-of-either-kind = wrong-at tt (storedEntries [], (family (EcbWait 1), tt)) refl (omega arith) not refl refl
 
 -- an entry of a task that has ended stays
 pub sweep-ended-stay : RuledOut (λ k. fits-Queue ⊗ fits-Family ⊗ fits-end) sweep.Pre sweep.Post
-    (λ k a. stored (keep (λ (e : Entry). used (a .1 .0 .places) (e .task)) (live (a .0))))
+    (λ k a. storedEntries (keep (λ (e : Entry). used (a .1 .0 .places) (e .task)) (entriesIn (a .0))))
 unfolding tables-open
 sweep-ended-stay =
-    wrong-at tt (stored ownerAndWaiter, (family Ended, tt)) refl two-packed (λ q. hasEntry (live q) 2 x) refl refl
+    wrong-at tt (storedEntries ownerAndWaiter, (family Ended, tt)) refl two-packed
+    (λ q. hasEntry (entriesIn q) 2 x) refl refl
 
 -- an entry of a task that waits goes
 pub sweep-waiting-go : RuledOut (λ k. fits-Queue ⊗ fits-Family ⊗ fits-end) sweep.Pre sweep.Post
-    (λ k a. stored (keep (λ (e : Entry). isReady (conditionOf (a .1 .0 .places) (e .task))) (live (a .0))))
+    (λ k a. storedEntries (keep (λ (e : Entry). isReady (conditionOf (a .1 .0 .places) (e .task))) (entriesIn (a .0))))
 unfolding tables-open
 sweep-waiting-go =
-    wrong-at tt (stored ownerAndWaiter, (family ResourceWait, tt)) refl two-packed (λ q. not (hasEntry (live q) 2 x))
+    wrong-at tt (storedEntries ownerAndWaiter, (family ResourceWait, tt)) refl two-packed
+    (λ q. not (hasEntry (entriesIn q) 2 x))
     refl refl
 
 -- nobody wakes: 2 waits, and no entry is left
 pub wake-nobody : RuledOut (λ k. fits-Queue ⊗ fits-Family ⊗ fits-end) wake.Pre wake.Post (λ k a. a .1 .0)
 unfolding tables-open
 wake-nobody =
-    wrong-at tt (stored [], (family ResourceWait, tt)) refl (omega arith) (λ f. inResourceWait (second f)) refl refl
+    wrong-at tt (storedEntries [], (family ResourceWait, tt)) refl (omega arith)
+    (λ f. inResourceWait (second f)) refl refl
 
 -- whoever has control of something wakes: 2 owns y, and waits for x
 pub wake-at-the-first-grant : RuledOut (λ k. fits-Queue ⊗ fits-Family ⊗ fits-end) wake.Pre wake.Post
     (λ k a. familyOf (mapAt (λ n (t : Task).
-    pick (inResourceWait (t .condition) && (not (lacks n (live (a .0))) || some (ofTask n) (holding [] (live (a .0)))))
+    pick (inResourceWait (t .condition) && (not (lacks n (entriesIn (a .0)))
+    || some (ofTask n) (holding [] (entriesIn (a .0)))))
     (withCondition t Ready) t) 1 (a .1 .0 .places)))
 unfolding tables-open
 wake-at-the-first-grant =
-    wrong-at tt (stored (entryFor 2 (exc y) ∷ ownerAndWaiter), (family ResourceWait, tt)) refl (omega arith)
+    wrong-at tt (storedEntries (entryFor 2 (exc y) ∷ ownerAndWaiter), (family ResourceWait, tt)) refl (omega arith)
     (λ f. isReady (second f)) refl refl
 
 -- whoever lacks control begins to wait: 2 is ready
 pub wake-also-holds-up : RuledOut (λ k. fits-Queue ⊗ fits-Family ⊗ fits-end) wake.Pre wake.Post
-    (λ k a. familyOf (waitsBy (live (a .0)) (a .1 .0 .places)))
+    (λ k a. familyOf (waitsBy (entriesIn (a .0)) (a .1 .0 .places)))
 unfolding tables-open
 wake-also-holds-up =
-    wrong-at tt (stored ownerAndWaiter, (family Ready, tt)) refl (omega arith) (λ f. inResourceWait (second f)) refl
+    wrong-at tt (storedEntries ownerAndWaiter, (family Ready, tt)) refl (omega arith)
+    (λ f. inResourceWait (second f)) refl
     refl

@@ -1,4 +1,4 @@
--- Wrong answers that the contracts of `names` rule out. Assumes nothing.
+-- Wrong answers that the contracts of `names` rule out.
 use Prim.Native.Nat.{ℕ, _+_, _-_}
 use mathlib.Core.Path.{refl}
 use mathlib.Core.Bool.{Bool, true, not, _&&_}
@@ -53,10 +53,11 @@ pub same-name-lengths-not-compared : RuledOut (λ k. fits-Name ⊗ fits-Name ⊗
 unfolding tables-open
 same-name-lengths-not-compared = wrong-at tt (kept x, (kept (named 88 (1 ∷ 0 ∷ [])), tt)) refl tt (λ b. b) refl refl
 
--- what stands behind the minor part is compared: two names of the one byte 1 are two, where a 9 stands behind one of
--- them
+-- what stands behind the minor part is compared: two names of
+-- the one byte 1 are two, where a 9 stands behind one of them
 pub same-name-bytes-behind-compared : RuledOut (λ k. fits-Name ⊗ fits-Name ⊗ fits-end) same-name.Pre same-name.Post
-    (λ k a. (eqb (a .0 .length) (a .1 .0 .length) && sameBytes (a .0 .minor) (a .1 .0 .minor)) && sameMajor (a .0) (a .1 .0))
+    (λ k a. (eqb (a .0 .length) (a .1 .0 .length) && sameBytes (a .0 .minor) (a .1 .0 .minor))
+    && sameMajor (a .0) (a .1 .0))
 unfolding tables-open
 same-name-bytes-behind-compared = wrong-at tt (kept x, (stated 1, tt)) refl tt not refl refl
 

@@ -1,4 +1,4 @@
--- Wrong answers that the contracts of `places` rule out. Assumes nothing.
+-- Wrong answers that the contracts of `places` rule out.
 use Prim.Native.Nat.{ℕ, _+_, _-_}
 use mathlib.Core.Path.{refl}
 use mathlib.Core.Bool.{Bool, true, not, _&&_, _||_}
@@ -18,7 +18,7 @@ use Rattle.rules.specs.Attach.{maybeGood}
 use Rattle.rules.specs.Family.{place, live, used, mother, below}
 use Rattle.rules.specs.SoundTasks.{hasEcb, motherGood, prioritiesGood, taskEcbsGood, endedTasksGood}
 use Rattle.rules.specs.SoundTasks.{zeroTask, freePlacesGood}
-use Rattle.rules.specs.Table.{ecb}
+use Rattle.rules.specs.Table.{rowOf, ecb}
 use Rattle.laws.specs.Wiping.{inUse}
 use Rattle.family.specs.Families.{familyOf}
 use Rattle.family.specs.declared.Family.{Family}
@@ -33,17 +33,16 @@ use Rattle.places.proofs.free_places_good.Reads as free-places-good
 use Rattle.places.proofs.all_zero.Reads as all-zero
 use Rattle.impostors.specs.Fitting.{_⊗_, fits-Family, fits-MaybeEcb, fits-end}
 use Rattle.impostors.specs.Opened.{tables-open}
-use Rattle.impostors.specs.Samples.{task}
 use Rattle.impostors.specs.Wrong.{told-apart, RuledOut, wrong-at}
 use Rattle.impostors.specs.Parts.{family, under, first}
 
 -- a place with these priorities
 abbrev ranked : Condition → ℕ → ℕ → Task
-ranked k limit dispatching = record { condition = k; mother = task 0; limit = limit; dispatching = dispatching; ecb = NoEcb }
+ranked k limit dispatching = rowOf k 0 limit dispatching NoEcb
 
 -- a free place that still has an ECB
 abbrev freeWithEcb : Task
-freeWithEcb = record { condition = Free; mother = task 0; limit = 0; dispatching = 0; ecb = ecb 0 }
+freeWithEcb = rowOf Free 0 0 0 (ecb 0)
 
 -- one task in the last place, and free places before it
 abbrev lastly : Task → Family

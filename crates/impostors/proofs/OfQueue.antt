@@ -1,4 +1,4 @@
--- Wrong answers that the contracts of `queue` rule out. Assumes nothing.
+-- Wrong answers that the contracts of `queue` rule out.
 use mathlib.Core.Path.{refl}
 use mathlib.Core.Bool.{true, false, not, _&&_, _||_}
 use mathlib.Core.List.{[], _∷_, _++_}
@@ -17,7 +17,7 @@ use Rattle.rules.specs.Table.{named, shr, exc}
 use Rattle.rules.specs.Enq.{entryFor}
 use Rattle.rules.specs.SoundQueue.{sameRequest, entriesOnce, entryNamesGood}
 use Rattle.history.specs.Samples.{x, y}
-use Rattle.queue.specs.Queues.{entryOf, slotOf, zeroSlot, live, stored, allFine, restZero}
+use Rattle.queue.specs.Queues.{entryOf, slotOf, zeroSlot, entriesIn, storedEntries, allFine, restZero}
 use Rattle.queue.specs.Marking.{allMarks, noMarks, markAt, markedBy, marksAmong}
 use Rattle.queue.specs.declared.Queue.{Queue}
 use Rattle.queue.proofs.empty.Reads as empty
@@ -36,7 +36,7 @@ use Rattle.impostors.specs.Parts.{ownerAndWaiter}
 
 -- the table is full of entries
 abbrev full : Queue
-full = stored (replicate mostEntries (entryFor 1 (exc x)))
+full = storedEntries (replicate mostEntries (entryFor 1 (exc x)))
 
 -- a place that no entry stands in, but exclusive
 abbrev exclusivePlace : Slot
@@ -44,7 +44,7 @@ exclusivePlace = record { task = zeroSlot .task; exclusive = true; name = zeroSl
 
 -- the queue has one entry, of nobody
 pub empty-of-one-entry : RuledOut (λ k. fits-end) empty.Pre empty.Post
-    (λ k a. record { slots = stored [] .slots; count = 1 })
+    (λ k a. record { slots = storedEntries [] .slots; count = 1 })
 unfolding tables-open
 empty-of-one-entry = wrong-at tt tt refl tt (λ q. eqb (q .count) 1) refl refl
 
@@ -78,7 +78,7 @@ queue-fits-by-the-count = wrong-at tt (record { slots = full .slots; count = 129
 
 -- 128 entries are too many
 pub queue-fits-full-does-not : RuledOut (λ k. fits-Queue ⊗ fits-end) queue-fits.Pre queue-fits.Post
-    (λ k a. ltb (length (live (a .0))) mostEntries)
+    (λ k a. ltb (length (entriesIn (a .0))) mostEntries)
 unfolding tables-open
 queue-fits-full-does-not = wrong-at tt (full, tt) refl tt not refl refl
 
@@ -106,55 +106,57 @@ bars-by-the-major-part =
 
 -- the last entry is not compared: two entries of task 1 for x
 pub entries-once-but-the-last : RuledOut (λ k. fits-Queue ⊗ fits-end) entries-once.Pre entries-once.Post
-    (λ k a. entriesOnce (take (a .0 .count - 1) (live (a .0))))
+    (λ k a. entriesOnce (take (a .0 .count - 1) (entriesIn (a .0))))
 unfolding tables-open
 entries-once-but-the-last =
-    wrong-at tt (stored (entryFor 1 (exc x) ∷ entryFor 1 (exc x) ∷ []), tt) refl (omega arith) (λ b. b) refl refl
+    wrong-at tt (storedEntries (entryFor 1 (exc x) ∷ entryFor 1 (exc x) ∷ []), tt) refl (omega arith) (λ b. b) refl refl
 
 -- two entries are one request only in one mode: task 1 has x shared and exclusive
 pub entries-once-in-each-mode : RuledOut (λ k. fits-Queue ⊗ fits-end) entries-once.Pre entries-once.Post
-    (λ k a. distinct (λ (e d : Entry). sameRequest e d && alike (e .exclusive) (d .exclusive)) (live (a .0)))
+    (λ k a. distinct (λ (e d : Entry). sameRequest e d && alike (e .exclusive) (d .exclusive)) (entriesIn (a .0)))
 unfolding tables-open
 entries-once-in-each-mode =
-    wrong-at tt (stored (entryFor 1 (shr x) ∷ entryFor 1 (exc x) ∷ []), tt) refl (omega arith) (λ b. b) refl refl
+    wrong-at tt (storedEntries (entryFor 1 (shr x) ∷ entryFor 1 (exc x) ∷ []), tt) refl (omega arith) (λ b. b) refl refl
 
 -- a name has one entry: 1 and 2 both ask for x
 pub entries-once-for-a-name : RuledOut (λ k. fits-Queue ⊗ fits-end) entries-once.Pre entries-once.Post
-    (λ k a. distinct (λ (e d : Entry). sameName (e .name) (d .name)) (live (a .0)))
+    (λ k a. distinct (λ (e d : Entry). sameName (e .name) (d .name)) (entriesIn (a .0)))
 unfolding tables-open
-entries-once-for-a-name = wrong-at tt (stored ownerAndWaiter, tt) refl (omega arith) not refl refl
+entries-once-for-a-name = wrong-at tt (storedEntries ownerAndWaiter, tt) refl (omega arith) not refl refl
 
 -- only the first name is looked at: behind x, one with no minor part
 pub entry-names-good-first-only : RuledOut (λ k. fits-Queue ⊗ fits-end) entry-names-good.Pre entry-names-good.Post
-    (λ k a. entryNamesGood (take 1 (live (a .0))))
+    (λ k a. entryNamesGood (take 1 (entriesIn (a .0))))
 unfolding tables-open
 entry-names-good-first-only =
-    wrong-at tt (stored (entryFor 1 (exc x) ∷ entryFor 1 (exc (named 88 [])) ∷ []), tt) refl (omega arith) (λ b. b) refl
+    wrong-at tt (storedEntries (entryFor 1 (exc x) ∷ entryFor 1 (exc (named 88 [])) ∷ []), tt) refl (omega arith)
+    (λ b. b) refl
     refl
 
 -- a minor part of 44 bytes is too long
 pub entry-names-good-44-bytes : RuledOut (λ k. fits-Queue ⊗ fits-end) entry-names-good.Pre entry-names-good.Post
-    (λ k a. entryNamesGood (live (a .0))
-    && every (λ (e : Entry). ltb (length (e .name .minor)) longestMinor) (live (a .0)))
+    (λ k a. entryNamesGood (entriesIn (a .0))
+    && every (λ (e : Entry). ltb (length (e .name .minor)) longestMinor) (entriesIn (a .0)))
 unfolding tables-open
 entry-names-good-44-bytes =
-    wrong-at tt (stored (entryFor 1 (exc (named 88 (replicate longestMinor 1))) ∷ []), tt) refl (omega arith) not refl
+    wrong-at tt (storedEntries (entryFor 1 (exc (named 88 (replicate longestMinor 1))) ∷ []), tt) refl
+    (omega arith) not refl
     refl
 
 -- a task is marked that was not asked for
 pub lacking-tasks-not-asked-for : RuledOut (λ k. fits-Queue ⊗ fits-Marks ⊗ fits-end) lacking.Pre lacking.Post
-    (λ k a. marksAmong allMarks (live (a .0)))
+    (λ k a. marksAmong allMarks (entriesIn (a .0)))
 unfolding tables-open
 lacking-tasks-not-asked-for =
-    wrong-at tt (stored ownerAndWaiter, (noMarks, tt)) refl (omega arith) (λ m. markAt m 2) refl refl
+    wrong-at tt (storedEntries ownerAndWaiter, (noMarks, tt)) refl (omega arith) (λ m. markAt m 2) refl refl
 
 -- whoever has control of something lacks nothing: task 1 owns x, 2 owns y and waits for x
 pub lacking-until-the-first-grant : RuledOut (λ k. fits-Queue ⊗ fits-Marks ⊗ fits-end) lacking.Pre lacking.Post
     (λ k a. markedBy (λ t. markAt (a .1 .0) t
-    && (lacks t (live (a .0)) && not (some (ofTask t) (holding [] (live (a .0)))))))
+    && (lacks t (entriesIn (a .0)) && not (some (ofTask t) (holding [] (entriesIn (a .0)))))))
 unfolding tables-open
 lacking-until-the-first-grant =
-    wrong-at tt (stored (entryFor 1 (exc x) ∷ entryFor 2 (exc y) ∷ entryFor 2 (exc x) ∷ []), (allMarks, tt)) refl
+    wrong-at tt (storedEntries (entryFor 1 (exc x) ∷ entryFor 2 (exc y) ∷ entryFor 2 (exc x) ∷ []), (allMarks, tt)) refl
     (omega arith) (λ m. not (markAt m 2)) refl refl
 
 -- task 32 is not marked

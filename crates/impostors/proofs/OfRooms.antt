@@ -1,4 +1,4 @@
--- Wrong answers that the contracts of `rooms` rule out. Assumes nothing.
+-- Wrong answers that the contracts of `rooms` rule out.
 use Prim.Native.Nat.{ℕ, zero, suc, _+_, _*_, _/_}
 use mathlib.Core.Path.{refl}
 use mathlib.Core.Bool.{Bool, true, false, not, cond, _&&_}
@@ -8,25 +8,25 @@ use lib.Dec.{eqb, leb}
 use Rattle.lists.specs.Pick.{pick}
 use Rattle.lists.specs.Lists.{every, some}
 use Rattle.kinds.specs.Limits.{region, page, doubleword, mostAreas}
-use Rattle.kinds.specs.Ranges.{addressGood, lengthGood, subpoolGood}
-use Rattle.kinds.specs.Replies.{numberOf}
+use Rattle.kinds.specs.Replies.{numberOf, besidesIn}
 use Rattle.kinds.specs.declared.areas.Area.{Area}
 use Rattle.kinds.specs.declared.numbers.TaskNumber.{TaskNumber}
 use Rattle.kinds.specs.declared.numbers.Address.{Address}
-use Rattle.kinds.specs.declared.numbers.Place.{Place}
-use Rattle.kinds.specs.declared.numbers.Place.the-variants.{At, Nowhere}
-use Rattle.kinds.specs.declared.replies.Fault.the-variants.{NoSuchArea}
+use Rattle.kinds.specs.declared.numbers.MaybeAddress.{MaybeAddress}
+use Rattle.kinds.specs.declared.numbers.MaybeAddress.the-variants.{At, Nowhere}
+use Rattle.kinds.specs.declared.replies.Fault.the-variants.{NoStorage, NoSuchArea}
 use Rattle.kinds.specs.declared.replies.Refusal.the-variants.{OutOfRange}
 use Rattle.kinds.specs.declared.replies.Reply.{Reply}
-use Rattle.kinds.specs.declared.replies.Reply.the-variants.{Done}
+use Rattle.kinds.specs.declared.replies.Reply.the-variants.{Done, Got}
 use Rattle.kinds.specs.declared.replies.Verdict.{Verdict}
-use Rattle.kinds.specs.declared.replies.Verdict.the-variants.{Go, Refuse, Fail}
-use Rattle.rules.specs.Storage.{startOf, endOf, rounded, ownerIn, areaAt, oneHolder, bytesApart, apart, permitted, placedAt, lowest, sameArea}
-use Rattle.rules.specs.Getmain.{roomVerdict, wanted, getmainVerdict}
-use Rattle.rules.specs.Freemain.{isNamed, freemainVerdict}
+use Rattle.rules.specs.Tests.{refuse, fail, firstOf}
+use Rattle.rules.specs.Storage.{startOf, pastEnd, rounded, ownerIn, areaAt, oneHolder, bytesApart, apart, permitted}
+use Rattle.rules.specs.Storage.{placedAt, lowest, sameArea}
+use Rattle.rules.specs.Getmain.{getmainGood, wanted, isNowhere, getmainVerdict}
+use Rattle.rules.specs.Freemain.{isNamed, freemainGood, freemainVerdict}
 use Rattle.rules.specs.HandCases.{area}
 use Rattle.rules.specs.Table.{counted}
-use Rattle.storage.specs.Stored.{live, stored, Packed}
+use Rattle.storage.specs.Stored.{areasIn, storedAreas, PackedAreas}
 use Rattle.storage.specs.Kept.{stored-packed}
 use Rattle.storage.specs.declared.Storage.{Storage}
 use Rattle.rooms.specs.Found.{placeFor, replyAt, putAt, gotBy, freedBy}
@@ -35,10 +35,12 @@ use Rattle.rooms.proofs.room.lowest.Reads as lowest-place
 use Rattle.rooms.proofs.asked.area_at.Reads as area-at
 use Rattle.rooms.proofs.getmain.got.Reads as got
 use Rattle.rooms.proofs.freemain.freed.Reads as freed
-use Rattle.impostors.specs.Fitting.{_⊗_, fits-Address, fits-Area, fits-Storage, fits-TaskNumber, fits-bool, fits-end, fits-u32, fits-u8}
+use Rattle.impostors.specs.Fitting.{_⊗_, fits-Address, fits-Area, fits-Storage, fits-TaskNumber, fits-bool}
+use Rattle.impostors.specs.Fitting.{fits-end, fits-u32, fits-u8}
 use Rattle.impostors.specs.Opened.{tables-open}
 use Rattle.impostors.specs.Wrong.{RuledOut, wrong-at}
 use Rattle.impostors.specs.Samples.{task}
+use Rattle.impostors.specs.Answers.{kindOf, retold}
 use Rattle.impostors.specs.Parts.{address, goes}
 
 -- SAMPLES: 8 bytes of task 1 in subpool 5, and 104 in subpool 10, at 0; 128 areas of 8 bytes in subpool 10, from 0 on
@@ -51,56 +53,57 @@ held = area 0 104 10 1 ∷ []
 abbrev full : List Area
 full = counted (λ n. area (doubleword * n) doubleword 10 1) 0 mostAreas
 
-few : Packed (stored held)
+few : PackedAreas (storedAreas held)
 few = stored-packed held _ refl (omega arith)
 
 -- what is seen: the place is an address, the verdict is to go on
-abbrev at : ℕ → Place → Bool
+abbrev at : ℕ → MaybeAddress → Bool
 at n (At a) = eqb (a .0) n
 at n Nowhere = false
 
 -- THE SEARCH
 
 -- the first of so many addresses that passes, from s on by so much
-abbrev firstOf : (ℕ → Bool) → ℕ → ℕ → ℕ → Place
-firstOf p by zero s = Nowhere
-firstOf p by (suc tries) s = cond (p s) (At (address s)) (firstOf p by tries (s + by))
+abbrev firstFrom : (ℕ → Bool) → ℕ → ℕ → ℕ → MaybeAddress
+firstFrom p by zero s = Nowhere
+firstFrom p by (suc tries) s = cond (p s) (At (address s)) (firstFrom p by tries (s + by))
 
 -- the first doubleword of the region at which an area passes
-abbrev firstAt : (Area → Bool) → Area → Place
-firstAt p want = firstOf (λ s. p (placedAt want s)) doubleword (region / doubleword) 0
+abbrev firstAt : (Area → Bool) → Area → MaybeAddress
+firstAt p want = firstFrom (λ s. p (placedAt want s)) doubleword (region / doubleword) 0
 
 -- only starts of pages are tried: 4,096, where 8 is free to the same holder
 pub lowest-at-a-page :
     RuledOut (λ k. fits-Storage ⊗ fits-Area ⊗ fits-end) lowest-place.Pre lowest-place.Post
-    (λ k a. firstOf (λ s. permitted (live (a .0)) (placedAt (a .1 .0) s)) page (region / page) 0)
+    (λ k a. firstFrom (λ s. permitted (areasIn (a .0)) (placedAt (a .1 .0) s)) page (region / page) 0)
 unfolding tables-open
-lowest-at-a-page = wrong-at tt (stored one, (area 0 8 5 1, tt)) refl (omega arith) (at 4096) refl refl
+lowest-at-a-page = wrong-at tt (storedAreas one, (area 0 8 5 1, tt)) refl (omega arith) (at 4096) refl refl
 
 -- an area past all others
 abbrev pastAll : List Area → Area → Bool
-pastAll l x = every (λ (y : Area). leb (endOf y) (startOf x)) l
+pastAll l x = every (λ (y : Area). leb (pastEnd y) (startOf x)) l
 
 -- room freed is never room: the search begins past all areas, and 0 to 7 are free below the one at 8
 pub lowest-past-the-last :
     RuledOut (λ k. fits-Storage ⊗ fits-Area ⊗ fits-end) lowest-place.Pre lowest-place.Post
-    (λ k a. firstAt (λ x. pastAll (live (a .0)) x && permitted (live (a .0)) x) (a .1 .0))
+    (λ k a. firstAt (λ x. pastAll (areasIn (a .0)) x && permitted (areasIn (a .0)) x) (a .1 .0))
 unfolding tables-open
-lowest-past-the-last = wrong-at tt (stored (area 8 8 5 1 ∷ []), (area 0 8 5 1, tt)) refl (omega arith) (at 16) refl refl
+lowest-past-the-last =
+    wrong-at tt (storedAreas (area 8 8 5 1 ∷ []), (area 0 8 5 1, tt)) refl (omega arith) (at 16) refl refl
 
 -- only bytes are judged: 104 for subpool 5, on the page of subpool 10
 pub lowest-on-anothers-page :
     RuledOut (λ k. fits-Storage ⊗ fits-Area ⊗ fits-end) lowest-place.Pre lowest-place.Post
-    (λ k a. firstAt (λ x. leb (endOf x) region && every (bytesApart x) (live (a .0))) (a .1 .0))
+    (λ k a. firstAt (λ x. leb (pastEnd x) region && every (bytesApart x) (areasIn (a .0))) (a .1 .0))
 unfolding tables-open
-lowest-on-anothers-page = wrong-at tt (stored held, (area 0 8 5 1, tt)) refl (omega arith) (at 104) refl refl
+lowest-on-anothers-page = wrong-at tt (storedAreas held, (area 0 8 5 1, tt)) refl (omega arith) (at 104) refl refl
 
 -- the end of the region is not looked at: 131,072 bytes at 8, where 0 to 7 are taken
 pub lowest-beyond-the-region :
     RuledOut (λ k. fits-Storage ⊗ fits-Area ⊗ fits-end) lowest-place.Pre lowest-place.Post
-    (λ k a. firstAt (λ x. every (apart x) (live (a .0))) (a .1 .0))
+    (λ k a. firstAt (λ x. every (apart x) (areasIn (a .0))) (a .1 .0))
 unfolding tables-open
-lowest-beyond-the-region = wrong-at tt (stored one, (area 0 131072 5 1, tt)) refl (omega arith) (at 8) refl refl
+lowest-beyond-the-region = wrong-at tt (storedAreas one, (area 0 131072 5 1, tt)) refl (omega arith) (at 8) refl refl
 
 -- THE AREA ASKED FOR
 
@@ -124,27 +127,31 @@ abbrev Asks : Type 0
 Asks = Storage × (TaskNumber × (ℕ × (ℕ × (Bool × Unit {0}))))
 
 abbrev asks : List Area → ℕ → Bool → Asks
-asks l bytes conditional = (stored l, (task 1, (bytes, (10, (conditional, tt)))))
+asks l bytes conditional = (storedAreas l, (task 1, (bytes, (10, (conditional, tt)))))
 
 -- the area, its place and the verdict of the rules
 abbrev areaOf : Asks → Area
 areaOf a = wanted (a .1 .1 .0) (a .1 .1 .1 .0) (a .1 .0 .0)
 
-abbrev placeOf : Asks → Place
-placeOf a = placeFor (live (a .0)) (a .1 .0) (a .1 .1 .0) (a .1 .1 .1 .0)
+abbrev placeOf : Asks → MaybeAddress
+placeOf a = placeFor (areasIn (a .0)) (a .1 .0) (a .1 .1 .0) (a .1 .1 .1 .0)
 
 abbrev verdictOf : Bool → Asks → Verdict
-verdictOf conditional a = getmainVerdict (live (a .0)) (a .1 .0) (a .1 .1 .0) (a .1 .1 .1 .0) conditional
+verdictOf conditional a = getmainVerdict (areasIn (a .0)) (a .1 .0) (a .1 .1 .0) (a .1 .1 .1 .0) conditional
 
 -- an answer with another reply and another place
-abbrev answered : Asks → Reply → Place → Stored
-answered a reply p = record { verdict = verdictOf (a .1 .1 .1 .1 .0) a; reply = reply; storage = putAt p (areaOf a) (a .0) }
+abbrev answered : Asks → Reply → MaybeAddress → Stored
+answered a reply p = record {
+  verdict = verdictOf (a .1 .1 .1 .1 .0) a;
+  reply = reply;
+  storage = putAt p (areaOf a) (a .0);
+}
 
-abbrev doneAt : Place → Reply
-doneAt (At p) = Done (p .0)
-doneAt Nowhere = Done 0
+abbrev doneAt : MaybeAddress → Reply
+doneAt (At p) = Got p
+doneAt Nowhere = Got (address 0)
 
-abbrev atZero : Place → Place
+abbrev atZero : MaybeAddress → MaybeAddress
 atZero (At p) = At (address 0)
 atZero Nowhere = Nowhere
 
@@ -168,20 +175,34 @@ pub got-put-in-at-0 :
     (λ k a. answered a (replyAt (placeOf a)) (atZero (placeOf a)))
 unfolding tables-open
 got-put-in-at-0 =
-    wrong-at tt (asks held 8 true) refl few (λ r. some (sameArea (area 0 8 10 1)) (live (r .storage))) refl refl
+    wrong-at tt (asks held 8 true) refl few (λ r. some (sameArea (area 0 8 10 1)) (areasIn (r .storage))) refl refl
+
+-- the address is told as the number of a task: 104
+pub got-answers-a-number :
+    RuledOut (λ k. fits-Storage ⊗ fits-TaskNumber ⊗ fits-u32 ⊗ fits-u8 ⊗ fits-bool ⊗ fits-end) got.Pre got.Post
+    (λ k a. answered a (retold (replyAt (placeOf a))) (placeOf a))
+unfolding tables-open
+got-answers-a-number =
+    wrong-at tt (asks held 8 true) refl few (λ r. eqb (kindOf (besidesIn (r .reply))) 3) refl refl
 
 -- the search, however many areas are in use
 abbrev goodAsk : Asks → Bool
-goodAsk a = lengthGood (a .1 .1 .0) && subpoolGood (a .1 .1 .1 .0)
+goodAsk a = getmainGood (a .1 .1 .0) (a .1 .1 .1 .0)
 
-abbrev searched : Asks → Place
-searched a = pick (goodAsk a) (lowest (live (a .0)) (areaOf a)) Nowhere
+abbrev searched : Asks → MaybeAddress
+searched a = pick (goodAsk a) (lowest (areasIn (a .0)) (areaOf a)) Nowhere
+
+abbrev searchedVerdict : Asks → Verdict
+searchedVerdict a =
+    firstOf
+    (refuse OutOfRange (not (goodAsk a))
+    ∷ fail NoStorage (not (a .1 .1 .1 .1 .0) && isNowhere (searched a))
+    ∷ [])
 
 -- no 107: an address is answered with 128 areas in use
 pub got-of-a-full-table :
     RuledOut (λ k. fits-Storage ⊗ fits-TaskNumber ⊗ fits-u32 ⊗ fits-u8 ⊗ fits-bool ⊗ fits-end) got.Pre got.Post
-    (λ k a. gotBy (pick (goodAsk a) (roomVerdict (searched a) (a .1 .1 .1 .1 .0)) (Refuse OutOfRange))
-    (searched a) (areaOf a) (a .0))
+    (λ k a. gotBy (searchedVerdict a) (searched a) (areaOf a) (a .0))
 unfolding tables-open
 got-of-a-full-table =
     wrong-at tt (asks full 8 true) refl (stored-packed full _ refl (omega arith)) (λ r. goes (r .verdict)) refl refl
@@ -191,27 +212,29 @@ abbrev Frees : Type 0
 Frees = Storage × (TaskNumber × (Address × (ℕ × (ℕ × Unit {0}))))
 
 abbrev frees : ℕ → ℕ → Frees
-frees t bytes = (stored held, (task t, (address 0, (bytes, (10, tt)))))
+frees t bytes = (storedAreas held, (task t, (address 0, (bytes, (10, tt)))))
 
 -- the area that is named, and the verdict
 abbrev named : Frees → Area
 named a = areaAt (a .1 .1 .0 .0) (a .1 .1 .1 .0) (a .1 .1 .1 .1 .0) (a .1 .0 .0)
 
 abbrev freeVerdict : Frees → Verdict
-freeVerdict a = freemainVerdict (live (a .0)) (a .1 .0) (a .1 .1 .0) (a .1 .1 .1 .0) (a .1 .1 .1 .1 .0)
+freeVerdict a = freemainVerdict (areasIn (a .0)) (a .1 .0) (a .1 .1 .0) (a .1 .1 .1 .0) (a .1 .1 .1 .1 .0)
 
 -- with another test of what is named
 abbrev freeing : (Area → Bool) → Frees → Stored
 freeing is a =
     freedBy
-    (pick (addressGood (a .1 .1 .0 .0) && (lengthGood (a .1 .1 .1 .0) && subpoolGood (a .1 .1 .1 .1 .0)))
-    (pick (some is (live (a .0))) Go (Fail NoSuchArea)) (Refuse OutOfRange))
+    (firstOf
+    (refuse OutOfRange (not (freemainGood (a .1 .1 .0) (a .1 .1 .1 .0) (a .1 .1 .1 .1 .0)))
+    ∷ fail NoSuchArea (not (some is (areasIn (a .0))))
+    ∷ []))
     is (a .0)
 
 -- it says 0 and leaves the area
 pub freed-and-left :
     RuledOut (λ k. fits-Storage ⊗ fits-TaskNumber ⊗ fits-Address ⊗ fits-u32 ⊗ fits-u8 ⊗ fits-end) freed.Pre freed.Post
-    (λ k a. record { verdict = freeVerdict a; reply = Done 0; storage = a .0 })
+    (λ k a. record { verdict = freeVerdict a; reply = Done; storage = a .0 })
 unfolding tables-open
 freed-and-left = wrong-at tt (frees 1 100) refl few (λ r. eqb (r .storage .count) 1) refl refl
 

@@ -1,27 +1,31 @@
--- Wrong answers that the contracts of `services` rule out. Each is right but for one thing: 100, the gate, the numbers
--- and the
--- tables are those of the rules wherever the mistake doesn't show. Whole services that are wrong stand in Impostors and
--- Slips. Assumes nothing.
+-- Wrong answers that the contracts of `services` rule out. Each is right but for one
+-- thing: 100, the gate, the numbers and the tables are those of the rules wherever the
+-- mistake doesn't show. Whole services that are wrong stand in Impostors and Slips.
 use Prim.Native.Nat.{ℕ, _/_}
 use mathlib.Core.Path.{_≡_, refl}
-use mathlib.Core.Bool.{Bool, true, false, not, cond, _&&_}
+use mathlib.Core.Bool.{Bool, true, false, not, cond, _&&_, _||_}
 use mathlib.Core.List.{List, [], _∷_}
 use lib.Dec.{eqb}
 use lib.IntN.{ℤ, pos}
-use lib.ListN.{getD, set}
+use lib.ListN.{length, getD, set}
+use denote.Ref.{RefT}
 use Rattle.lists.specs.Lists.{some, keep}
 use Rattle.lists.specs.Pick.{pick}
 use Rattle.kinds.specs.Limits.{region, doubleword}
-use Rattle.kinds.specs.Ranges.{endCodeGood, priorityGood, ecbGood, taskGood, lengthGood, subpoolGood, addressGood}
+use Rattle.kinds.specs.Ranges.{endCodeGood, priorityGood}
+use Rattle.kinds.specs.Replies.{valueOf}
+use Rattle.kinds.specs.Replies.Besides.{TheNumber}
 use Rattle.kinds.specs.Tasks.{noTask, isFree, isReady, inResourceWait}
 use Rattle.kinds.specs.declared.numbers.TaskNumber.{TaskNumber}
 use Rattle.kinds.specs.declared.numbers.EcbNumber.{EcbNumber}
 use Rattle.kinds.specs.declared.numbers.Address.{Address}
 use Rattle.kinds.specs.declared.areas.Area.{Area}
 use Rattle.kinds.specs.declared.tasks.MaybeEcb.{MaybeEcb}
+use Rattle.kinds.specs.declared.names.NameList.{NameList}
+use Rattle.kinds.specs.declared.ecbs.EcbList.{EcbList}
 use Rattle.kinds.specs.declared.tasks.MaybeEcb.the-variants.{NoEcb}
 use Rattle.kinds.specs.declared.requests.Request.{Request}
-use Rattle.kinds.specs.declared.requests.Request.the-variants.{Attach, Detach, End, Abend, Enq, Deq, Wait, Post, Clear, Getmain, Freemain, Dispatch}
+use Rattle.kinds.specs.declared.requests.Request.the-variants.{Attach, End, Enq, Getmain}
 use Rattle.kinds.specs.declared.requests.Ret.{Ret}
 use Rattle.kinds.specs.declared.requests.Ret.the-variants.{None, Test}
 use Rattle.kinds.specs.declared.requests.DeqRet.{DeqRet}
@@ -29,35 +33,37 @@ use Rattle.kinds.specs.declared.requests.DeqRet.the-variants.{None as DeqNone, 
 use Rattle.kinds.specs.declared.replies.Refusal.the-variants.{OutOfRange}
 use Rattle.kinds.specs.declared.replies.Fault.the-variants.{NotSubtask, NoSuchArea}
 use Rattle.kinds.specs.declared.replies.Verdict.{Verdict}
-use Rattle.kinds.specs.declared.replies.Verdict.the-variants.{Go, Refuse, Fail}
 use Rattle.names.specs.Named.{namesIn}
 use Rattle.events.specs.Blocks.{ecbsIn}
 use Rattle.rules.specs.Names.{Names, namesOf as resources}
 use Rattle.rules.specs.Family.{place, withPlace, conditionOf, below}
-use Rattle.rules.specs.Steps.{Step, Outcome, Served, done, refused, keptBy, overStep, withTasks, withQueue, withEcbs, withAreas}
+use Rattle.rules.specs.Steps.{Step, Outcome, Served, done, doneWith, refused, keptBy, overStep, withTasks, withQueue}
+use Rattle.rules.specs.Steps.{withEcbs, withAreas}
 use Rattle.rules.specs.Table.{exc}
+use Rattle.rules.specs.Tests.{refuse, fail, firstOf}
 use Rattle.rules.specs.Admission.{gateOf, openGate, through, settled, codesThrough}
 use Rattle.rules.specs.Codes.{writtenOn}
 use Rattle.rules.specs.Ending.{leftBy}
 use Rattle.rules.specs.Events.{Ecbs, ecbAt, posted}
-use Rattle.rules.specs.Waits.{requeued}
-use Rattle.rules.specs.Attach.{attachBody}
-use Rattle.rules.specs.Detach.{detachDone, detachOf}
-use Rattle.rules.specs.End.{endDone, endOf}
+use Rattle.rules.specs.ResourceWaits.{requeued}
+use Rattle.rules.specs.Attach.{attachBody, attachOf}
+use Rattle.rules.specs.Detach.{detachGood, detachDone, detachOf}
+use Rattle.rules.specs.End.{endGood, endDone, endOf}
 use Rattle.rules.specs.Abend.{abendVerdict}
 use Rattle.rules.specs.Enq.{enqCodes, enqVerdict, enqOf}
 use Rattle.rules.specs.Deq.{released, deqVerdict, deqOf}
 use Rattle.rules.specs.Wait.{waitOf}
 use Rattle.rules.specs.Post.{postVerdict, postOf}
-use Rattle.rules.specs.Clear.{clearDone, clearOf}
+use Rattle.rules.specs.Clear.{clearGood, clearDone, clearOf}
 use Rattle.rules.specs.Storage.{startOf, oneHolder, areaAt, lowestFrom}
-use Rattle.rules.specs.Getmain.{wanted, given, getmainVerdict}
-use Rattle.rules.specs.Freemain.{freemainOf}
+use Rattle.rules.specs.Getmain.{wanted, given, getmainVerdict, getmainOf}
+use Rattle.rules.specs.Freemain.{freemainGood, freemainOf}
+use Rattle.rules.specs.Dispatch.{dispatchOf}
 use Rattle.rules.specs.Sound.{soundStep}
 use Rattle.rules.specs.Fresh.{freshStep}
 use Rattle.rules.specs.Serve.{serviceOf}
 use Rattle.history.specs.Samples.{start, x}
-use Rattle.services.specs.Kept.{stepOf, tablesOf, withQueue as withEntries, soundb, answered}
+use Rattle.services.specs.Kept.{stepOf, tablesOf, withClaims, soundb, answered}
 use Rattle.services.specs.declared.Tables.{Tables}
 use Rattle.services.proofs.Tables.sound.Reads as sound
 use Rattle.services.proofs.Tables.fresh.Reads as fresh
@@ -75,12 +81,15 @@ use Rattle.services.proofs.Tables.getmain.Reads as getmain
 use Rattle.services.proofs.Tables.freemain.Reads as freemain
 use Rattle.services.proofs.Tables.serve.Reads as serve
 use Rattle.impostors.specs.Fitting.{_⊗_, fits-bool, fits-end, fits-i16, fits-lent, fits-u16, fits-u32, fits-u8}
-use Rattle.impostors.specs.Fitting.{fits-Address, fits-DeqRet, fits-EcbList, fits-EcbNumber, fits-MaybeEcb, fits-NameList, fits-Request, fits-Ret, fits-Tables, fits-TaskNumber}
+use Rattle.impostors.specs.Fitting.{fits-Address, fits-DeqRet, fits-EcbList, fits-EcbNumber, fits-MaybeEcb}
+use Rattle.impostors.specs.Fitting.{fits-NameList, fits-Request, fits-Ret, fits-Tables, fits-TaskNumber}
 use Rattle.impostors.specs.Opened.{tables-open}
 use Rattle.impostors.specs.Wrong.{told-apart, RuledOut, wrong-at, RuledOutWith, wrong-with, Heeds, heeds}
-use Rattle.impostors.specs.Samples.{Asking, task, ecb, namesOf, ecbsOf, after, oneDaughter, twoGenerations, withEcb, daughterOwns, owned, awaited, postedOnce, waitedOn, oneArea}
+use Rattle.impostors.specs.Samples.{Asking, task, ecb, namesOf, ecbsOf, after, oneDaughter, twoGenerations}
+use Rattle.impostors.specs.Samples.{withEcb, daughterOwns, owned, awaited, postedOnce, waitedOn, oneArea}
 use Rattle.impostors.specs.Parts.{lent, address, lastBest, incomplete}
-use Rattle.impostors.specs.Answers.{answerOf, answering, but, butServed, coding}
+use Rattle.impostors.specs.Impostors.{byService}
+use Rattle.impostors.specs.Answers.{answerOf, answering, but, butServed, kindOf, retelling, coding}
 
 -- the tables after a run from a fresh step
 abbrev tables : List Asking → Tables
@@ -92,6 +101,37 @@ waits n t = inResourceWait (conditionOf (t .family .places) n)
 
 abbrev runs : ℕ → Tables → Bool
 runs n t = isReady (conditionOf (t .family .places) n)
+
+-- WHAT IS GIVEN to the services of many parameters, and that it fits
+abbrev Attaches : Type 0
+Attaches = Tables × (TaskNumber × (ℕ × (ℤ × (MaybeEcb × Unit {0}))))
+
+abbrev fits-Attaches : Attaches → Bool
+fits-Attaches = fits-Tables ⊗ fits-TaskNumber ⊗ fits-u16 ⊗ fits-i16 ⊗ fits-MaybeEcb ⊗ fits-end
+
+abbrev Coded : Type 0 → Type 0
+Coded R = Tables × (TaskNumber × (R × (NameList × (RefT (List ℕ) × Unit {0}))))
+
+abbrev fits-Coded : {R : Type 0} → (R → Bool) → Coded R → Bool
+fits-Coded ret = fits-Tables ⊗ fits-TaskNumber ⊗ ret ⊗ fits-NameList ⊗ fits-lent ⊗ fits-end
+
+abbrev Gets : Type 0
+Gets = Tables × (TaskNumber × (ℕ × (ℕ × (Bool × Unit {0}))))
+
+abbrev fits-Gets : Gets → Bool
+fits-Gets = fits-Tables ⊗ fits-TaskNumber ⊗ fits-u32 ⊗ fits-u8 ⊗ fits-bool ⊗ fits-end
+
+abbrev Frees : Type 0
+Frees = Tables × (TaskNumber × (Address × (ℕ × (ℕ × Unit {0}))))
+
+abbrev fits-Frees : Frees → Bool
+fits-Frees = fits-Tables ⊗ fits-TaskNumber ⊗ fits-Address ⊗ fits-u32 ⊗ fits-u8 ⊗ fits-end
+
+abbrev Serves : Type 0
+Serves = Tables × (Request × (NameList × (EcbList × (RefT (List ℕ) × Unit {0}))))
+
+abbrev fits-Serves : Serves → Bool
+fits-Serves = fits-Tables ⊗ fits-Request ⊗ fits-NameList ⊗ fits-EcbList ⊗ fits-lent ⊗ fits-end
 
 -- what a service does for a caller that the gate lets through
 abbrev behindGate : Step → TaskNumber → Verdict → Outcome Step → Outcome Step
@@ -105,7 +145,7 @@ pub sound-behind-the-count : RuledOut (λ k. fits-Tables ⊗ fits-end) sound.Pre
 unfolding tables-open
 sound-behind-the-count =
     wrong-at tt
-    (withEntries (tablesOf start) (tables owned .family) (record { slots = tables owned .queue .slots; count = 0 }), tt)
+    (withClaims (tablesOf start) (tables owned .family) (record { slots = tables owned .queue .slots; count = 0 }), tt)
     refl tt (λ b. b) refl refl
 
 -- of a step that is over only the code is looked at: it has tasks
@@ -122,7 +162,8 @@ sound-over-with-tasks =
 -- that dispatching is not above limit is not tested
 abbrev freshAnyhow : ℕ → ℕ → Outcome Step
 freshAnyhow limit dispatching =
-    pick (priorityGood limit && priorityGood dispatching) (done 0 (freshStep limit dispatching)) (refused OutOfRange (overStep 0))
+    pick (not (priorityGood limit && priorityGood dispatching)) (refused OutOfRange (overStep 0))
+    (done (freshStep limit dispatching))
 
 pub fresh-above-the-limit : RuledOut (λ k. fits-u16 ⊗ fits-u16 ⊗ fits-end) fresh.Pre fresh.Post
     (λ k a. answerOf (keptBy tablesOf (freshAnyhow (a .0) (a .1 .0))))
@@ -139,36 +180,49 @@ fresh-heeds-dispatching =
 
 -- nobody is chosen, although task 1 is ready
 pub dispatch-answers-0 : RuledOut (λ k. fits-Tables ⊗ fits-end) dispatch.Pre dispatch.Post
-    (λ k a. answering (a .0) (λ s. through (openGate s) s (done 0 s)))
+    (λ k a. answering (a .0) (λ s. through (openGate s) s (doneWith (TheNumber (task 0)) s)))
 unfolding tables-open
-dispatch-answers-0 = wrong-at tt (tablesOf start, tt) refl tt (λ o. eqb (o .besides) 0) refl refl
+dispatch-answers-0 = wrong-at tt (tablesOf start, tt) refl tt (λ o. eqb (valueOf (o .besides)) 0) refl refl
 
 -- the highest number among equals: 2 and not 1, which both have 150
 pub dispatch-the-last-among-equals : RuledOut (λ k. fits-Tables ⊗ fits-end) dispatch.Pre dispatch.Post
-    (λ k a. answering (a .0) (λ s. through (openGate s) s (done (lastBest (s .tasks)) s)))
+    (λ k a. answering (a .0) (λ s. through (openGate s) s (doneWith (TheNumber (task (lastBest (s .tasks)))) s)))
 unfolding tables-open
-dispatch-the-last-among-equals = wrong-at tt (tables oneDaughter, tt) refl tt (λ o. eqb (o .besides) 2) refl refl
+dispatch-the-last-among-equals =
+    wrong-at tt (tables oneDaughter, tt) refl tt (λ o. eqb (valueOf (o .besides)) 2) refl refl
+
+-- the number of the task is told as that of a new one: 1
+pub dispatch-answers-a-new-number : RuledOut (λ k. fits-Tables ⊗ fits-end) dispatch.Pre dispatch.Post
+    (λ k a. answering (a .0) (λ s. retelling (dispatchOf s)))
+unfolding tables-open
+dispatch-answers-a-new-number =
+    wrong-at tt (tablesOf start, tt) refl tt (λ o. eqb (kindOf (o .besides)) 1) refl refl
 
 -- ATTACH
 
 -- there is no gate: 2, which waits for x, attaches
-pub attach-with-no-gate :
-    RuledOut (λ k. fits-Tables ⊗ fits-TaskNumber ⊗ fits-u16 ⊗ fits-i16 ⊗ fits-MaybeEcb ⊗ fits-end) attach.Pre attach.Post
+pub attach-with-no-gate : RuledOut (λ k. fits-Attaches) attach.Pre attach.Post
     (λ k a. answering (a .0) (λ s. attachBody s (a .1 .0) (a .1 .1 .0) (a .1 .1 .1 .0) (a .1 .1 .1 .1 .0)))
 unfolding tables-open
 attach-with-no-gate =
     wrong-at tt (tables awaited, (task 2, (0, (pos 0, (NoEcb, tt))))) refl tt (λ o. eqb (o .number) 0) refl refl
 
 -- LPMOD counts for nothing: no answer fits LPMOD 30 and LPMOD 0
-abbrev with-lpmod : ℕ → Tables × (TaskNumber × (ℕ × (ℤ × (MaybeEcb × Unit {0}))))
+abbrev with-lpmod : ℕ → Attaches
 with-lpmod n = (tablesOf start, (task 1, (n, (pos 0, (NoEcb, tt)))))
 
-pub attach-heeds-lpmod :
-    Heeds (λ k. fits-Tables ⊗ fits-TaskNumber ⊗ fits-u16 ⊗ fits-i16 ⊗ fits-MaybeEcb ⊗ fits-end) attach.Pre attach.Post
+pub attach-heeds-lpmod : Heeds (λ k. fits-Attaches) attach.Pre attach.Post
 unfolding tables-open
 attach-heeds-lpmod =
     heeds tt (with-lpmod 30) (with-lpmod 0) refl refl tt tt
     (λ o. eqb (place (o .tables .family .places) 2 .limit) 170) refl refl
+
+-- the number of the new task is told as an address: 2
+pub attach-answers-an-address : RuledOut (λ k. fits-Attaches) attach.Pre attach.Post
+    (λ k a. answering (a .0) (λ s. retelling (attachOf s (a .1 .0) (a .1 .1 .0) (a .1 .1 .1 .0) (a .1 .1 .1 .1 .0))))
+unfolding tables-open
+attach-answers-an-address =
+    wrong-at tt (with-lpmod 0) refl tt (λ o. eqb (kindOf (o .besides)) 2) refl refl
 
 -- DETACH
 
@@ -176,9 +230,10 @@ attach-heeds-lpmod =
 abbrev detachBelow : Step → TaskNumber → TaskNumber → Outcome Step
 detachBelow s c n =
     behindGate s c
-    (pick (taskGood (n .0))
-    (pick (not (eqb (n .0) (c .0)) && below (s .tasks) (c .0) (n .0)) Go (Fail NotSubtask))
-    (Refuse OutOfRange))
+    (firstOf
+    (refuse OutOfRange (not (detachGood n))
+    ∷ fail NotSubtask (eqb (n .0) (c .0) || not (below (s .tasks) (c .0) (n .0)))
+    ∷ []))
     (detachDone s n)
 
 pub detach-of-a-granddaughter :
@@ -191,7 +246,7 @@ detach-of-a-granddaughter =
 -- the queue stays as it was: 2 owned x, and is detached
 pub detach-leaves-the-entries :
     RuledOut (λ k. fits-Tables ⊗ fits-TaskNumber ⊗ fits-TaskNumber ⊗ fits-end) detach.Pre detach.Post
-    (λ k a. answering (a .0) (λ s. but (detachOf s (a .1 .0) (a .1 .1 .0)) (λ u. withQueue u (u .tasks) (s .queue))))
+    (λ k a. answering (a .0) (λ s. but (detachOf s (a .1 .0) (a .1 .1 .0)) (λ u. withQueue u (s .queue))))
 unfolding tables-open
 detach-leaves-the-entries =
     wrong-at tt (tables daughterOwns, (task 1, (task 2, tt))) refl tt (λ o. eqb (o .tables .queue .count) 1) refl refl
@@ -201,13 +256,13 @@ detach-leaves-the-entries =
 -- there is no 207: 2 ends, and has a daughter
 pub end-with-a-subtask : RuledOut (λ k. fits-Tables ⊗ fits-TaskNumber ⊗ fits-u16 ⊗ fits-end) end.Pre end.Post
     (λ k a. answering (a .0) (λ s. behindGate s (a .1 .0)
-    (pick (endCodeGood (a .1 .1 .0)) Go (Refuse OutOfRange)) (endDone s (a .1 .0) (a .1 .1 .0))))
+    (firstOf (refuse OutOfRange (not (endGood (a .1 .1 .0))) ∷ [])) (endDone s (a .1 .0) (a .1 .1 .0))))
 unfolding tables-open
 end-with-a-subtask = wrong-at tt (tables twoGenerations, (task 2, (0, tt))) refl tt (λ o. eqb (o .number) 0) refl refl
 
 -- no ECB is posted: 2 was attached with ECB 0
 pub end-posts-nothing : RuledOut (λ k. fits-Tables ⊗ fits-TaskNumber ⊗ fits-u16 ⊗ fits-end) end.Pre end.Post
-    (λ k a. answering (a .0) (λ s. but (endOf s (a .1 .0) (a .1 .1 .0)) (λ u. withEcbs u (u .tasks) (s .ecbs))))
+    (λ k a. answering (a .0) (λ s. but (endOf s (a .1 .0) (a .1 .1 .0)) (λ u. withEcbs u (s .ecbs))))
 unfolding tables-open
 end-posts-nothing =
     wrong-at tt (tables withEcb, (task 2, (7, tt))) refl tt
@@ -227,7 +282,7 @@ abend-heeds-step =
 abbrev abendAlone : Step → TaskNumber → ℕ → Bool → Outcome Step
 abendAlone s c code step =
     behindGate s c (abendVerdict code)
-    (pick step (done 0 (overStep code)) (done 0 (leftBy s (withPlace (s .tasks) (c .0) noTask))))
+    (pick step (done (overStep code)) (done (leftBy s (withPlace (s .tasks) (c .0) noTask))))
 
 pub abend-leaves-the-daughters :
     RuledOut (λ k. fits-Tables ⊗ fits-TaskNumber ⊗ fits-u16 ⊗ fits-bool ⊗ fits-end) abend.Pre abend.Post
@@ -240,8 +295,7 @@ abend-leaves-the-daughters =
 -- ENQ
 
 -- no task comes to wait: 2 asks for what 1 owns, and goes on
-pub enq-goes-on-without-control :
-    RuledOutWith (λ k. fits-Tables ⊗ fits-TaskNumber ⊗ fits-Ret ⊗ fits-NameList ⊗ fits-lent ⊗ fits-end) enq.Pre enq.Post
+pub enq-goes-on-without-control : RuledOutWith (λ k. fits-Coded fits-Ret) enq.Pre enq.Post
     (λ k a. coding a (λ s area.
     butServed (enqOf s (a .1 .0) (a .1 .1 .0) (namesIn (a .1 .1 .1 .0)) area) (λ u. withTasks u (s .tasks))))
 unfolding tables-open
@@ -254,11 +308,11 @@ abbrev enqWrites : Step → TaskNumber → Ret → Names → List ℕ → Served
 enqWrites s c ret l area = record {
   outcome = enqOf s c ret l area .outcome;
   codes =
-      codesThrough (gateOf s c) (enqVerdict (s .queue) c ret l area) area (writtenOn (enqCodes ret (s .queue) (c .0) l) area);
+      codesThrough (gateOf s c) (enqVerdict (s .queue) c ret l (length area)) area
+      (writtenOn (enqCodes ret (s .queue) (c .0) l) area);
 }
 
-pub enq-writes-codes-under-none :
-    RuledOutWith (λ k. fits-Tables ⊗ fits-TaskNumber ⊗ fits-Ret ⊗ fits-NameList ⊗ fits-lent ⊗ fits-end) enq.Pre enq.Post
+pub enq-writes-codes-under-none : RuledOutWith (λ k. fits-Coded fits-Ret) enq.Pre enq.Post
     (λ k a. coding a (λ s area. enqWrites s (a .1 .0) (a .1 .1 .0) (namesIn (a .1 .1 .1 .0)) area))
 unfolding tables-open
 enq-writes-codes-under-none =
@@ -268,8 +322,7 @@ enq-writes-codes-under-none =
 -- DEQ
 
 -- nobody is granted what was released: 2 waits on
-pub deq-grants-nothing :
-    RuledOutWith (λ k. fits-Tables ⊗ fits-TaskNumber ⊗ fits-DeqRet ⊗ fits-NameList ⊗ fits-lent ⊗ fits-end) deq.Pre deq.Post
+pub deq-grants-nothing : RuledOutWith (λ k. fits-Coded fits-DeqRet) deq.Pre deq.Post
     (λ k a. coding a (λ s area.
     butServed (deqOf s (a .1 .0) (a .1 .1 .0) (namesIn (a .1 .1 .1 .0)) area) (λ u. withTasks u (s .tasks))))
 unfolding tables-open
@@ -281,12 +334,12 @@ deq-grants-nothing =
 abbrev deqSaysZero : Step → TaskNumber → DeqRet → Names → List ℕ → Served Step
 deqSaysZero s c ret l area = record {
   outcome =
-      behindGate s c (deqVerdict (s .queue) c ret l area) (done 0 (requeued s (released (c .0) (resources l) (s .queue))));
+      behindGate s c (deqVerdict (s .queue) c ret l (length area))
+      (done (requeued s (released (c .0) (resources l) (s .queue))));
   codes = deqOf s c ret l area .codes;
 }
 
-pub deq-says-0-with-a-code-8 :
-    RuledOutWith (λ k. fits-Tables ⊗ fits-TaskNumber ⊗ fits-DeqRet ⊗ fits-NameList ⊗ fits-lent ⊗ fits-end) deq.Pre deq.Post
+pub deq-says-0-with-a-code-8 : RuledOutWith (λ k. fits-Coded fits-DeqRet) deq.Pre deq.Post
     (λ k a. coding a (λ s area. deqSaysZero s (a .1 .0) (a .1 .1 .0) (namesIn (a .1 .1 .1 .0)) area))
 unfolding tables-open
 deq-says-0-with-a-code-8 =
@@ -299,7 +352,7 @@ deq-says-0-with-a-code-8 =
 pub wait-goes-on-with-too-few :
     RuledOut (λ k. fits-Tables ⊗ fits-TaskNumber ⊗ fits-EcbList ⊗ fits-u32 ⊗ fits-end) wait.Pre wait.Post
     (λ k a. answering (a .0) (λ s. but (waitOf s (a .1 .0) (ecbsIn (a .1 .1 .0)) (a .1 .1 .1 .0))
-    (λ u. withEcbs u (s .tasks) (s .ecbs))))
+    (λ u. withEcbs (withTasks u (s .tasks)) (s .ecbs))))
 unfolding tables-open
 wait-goes-on-with-too-few =
     wrong-at tt (tablesOf start, (task 1, (ecbsOf (3 ∷ []), (1, tt)))) refl tt (λ o. runs 1 (o .tables)) refl refl
@@ -319,7 +372,7 @@ wait-heeds-the-count =
 abbrev postsAgain : Step → TaskNumber → EcbNumber → ℕ → Outcome Step
 postsAgain s c e code =
     behindGate s c (postVerdict e code)
-    (done 0 (posted (withEcbs s (s .tasks) (set (s .ecbs) (e .0) (incomplete (ecbAt (s .ecbs) (e .0))))) (e .0) code))
+    (done (posted (withEcbs s (set (s .ecbs) (e .0) (incomplete (ecbAt (s .ecbs) (e .0))))) (e .0) code))
 
 pub post-replaces-the-code :
     RuledOut (λ k. fits-Tables ⊗ fits-TaskNumber ⊗ fits-EcbNumber ⊗ fits-u32 ⊗ fits-end) post.Pre post.Post
@@ -359,14 +412,14 @@ post-leaves-the-waiter = record {
 pub clear-of-one-waited-on :
     RuledOut (λ k. fits-Tables ⊗ fits-TaskNumber ⊗ fits-EcbNumber ⊗ fits-end) clear.Pre clear.Post
     (λ k a. answering (a .0) (λ s. behindGate s (a .1 .0)
-    (pick (ecbGood (a .1 .1 .0 .0)) Go (Refuse OutOfRange)) (clearDone s (a .1 .1 .0))))
+    (firstOf (refuse OutOfRange (not (clearGood (a .1 .1 .0))) ∷ [])) (clearDone s (a .1 .1 .0))))
 unfolding tables-open
 clear-of-one-waited-on = wrong-at tt (tables waitedOn, (task 1, (ecb 3, tt))) refl tt (λ o. eqb (o .number) 0) refl refl
 
 -- no word changes: ECB 3 stays complete
 pub clear-leaves-the-word :
     RuledOut (λ k. fits-Tables ⊗ fits-TaskNumber ⊗ fits-EcbNumber ⊗ fits-end) clear.Pre clear.Post
-    (λ k a. answering (a .0) (λ s. but (clearOf s (a .1 .0) (a .1 .1 .0)) (λ u. withEcbs u (u .tasks) (s .ecbs))))
+    (λ k a. answering (a .0) (λ s. but (clearOf s (a .1 .0) (a .1 .1 .0)) (λ u. withEcbs u (s .ecbs))))
 unfolding tables-open
 clear-leaves-the-word =
     wrong-at tt (tables postedOnce, (task 1, (ecb 3, tt))) refl tt (λ o. ecbAt (o .tables .events .ecbs) 3 .complete)
@@ -381,23 +434,28 @@ getmainFrom8 s c bytes subpool conditional =
     behindGate s c (getmainVerdict (s .areas) c bytes subpool conditional)
     (given s w (lowestFrom (region / doubleword) (s .areas) w doubleword))
 
-pub getmain-never-at-0 :
-    RuledOut (λ k. fits-Tables ⊗ fits-TaskNumber ⊗ fits-u32 ⊗ fits-u8 ⊗ fits-bool ⊗ fits-end) getmain.Pre getmain.Post
+pub getmain-never-at-0 : RuledOut (λ k. fits-Gets) getmain.Pre getmain.Post
     (λ k a. answering (a .0) (λ s. getmainFrom8 s (a .1 .0) (a .1 .1 .0) (a .1 .1 .1 .0) (a .1 .1 .1 .1 .0)))
 unfolding tables-open
 getmain-never-at-0 =
-    wrong-at tt (tablesOf start, (task 1, (100, (10, (false, tt))))) refl tt (λ o. eqb (o .besides) 8) refl refl
+    wrong-at tt (tablesOf start, (task 1, (100, (10, (false, tt))))) refl tt
+    (λ o. eqb (valueOf (o .besides)) 8) refl refl
 
--- the subpool counts for nothing: behind 100 bytes of subpool 10 there is room at 104 for subpool 10, and for another
--- on the
--- next page only
-pub getmain-heeds-the-subpool :
-    Heeds (λ k. fits-Tables ⊗ fits-TaskNumber ⊗ fits-u32 ⊗ fits-u8 ⊗ fits-bool ⊗ fits-end) getmain.Pre getmain.Post
+-- the subpool counts for nothing: behind 100 bytes of subpool 10 there
+-- is room at 104 for subpool 10, and for another on the next page only
+pub getmain-heeds-the-subpool : Heeds (λ k. fits-Gets) getmain.Pre getmain.Post
 unfolding tables-open
 getmain-heeds-the-subpool =
     heeds tt (tables oneArea, (task 1, (8, (10, (false, tt))))) (tables oneArea, (task 1, (8, (5, (false, tt))))) refl
     refl tt tt
-    (λ o. eqb (o .besides) 104) refl refl
+    (λ o. eqb (valueOf (o .besides)) 104) refl refl
+
+-- the address is told as the number of a task: 104
+pub getmain-answers-a-number : RuledOut (λ k. fits-Gets) getmain.Pre getmain.Post
+    (λ k a. answering (a .0) (λ s. retelling (getmainOf s (a .1 .0) (a .1 .1 .0) (a .1 .1 .1 .0) (a .1 .1 .1 .1 .0))))
+unfolding tables-open
+getmain-answers-a-number =
+    wrong-at tt (tables oneArea, (task 1, (8, (10, (false, tt))))) refl tt (λ o. eqb (kindOf (o .besides)) 3) refl refl
 
 -- FREEMAIN
 
@@ -409,21 +467,20 @@ abbrev freesAnyLength : Step → TaskNumber → Address → ℕ → ℕ → Outc
 freesAnyLength s c at bytes subpool =
     let a = areaAt (at .0) bytes subpool (c .0) in
     behindGate s c
-    (pick (addressGood (at .0) && (lengthGood bytes && subpoolGood subpool))
-    (pick (some (startsAs a) (s .areas)) Go (Fail NoSuchArea))
-    (Refuse OutOfRange))
-    (done 0 (withAreas s (keep (λ (b : Area). not (startsAs a b)) (s .areas))))
+    (firstOf
+    (refuse OutOfRange (not (freemainGood at bytes subpool))
+    ∷ fail NoSuchArea (not (some (startsAs a) (s .areas)))
+    ∷ []))
+    (done (withAreas s (keep (λ (b : Area). not (startsAs a b)) (s .areas))))
 
-pub freemain-of-a-part :
-    RuledOut (λ k. fits-Tables ⊗ fits-TaskNumber ⊗ fits-Address ⊗ fits-u32 ⊗ fits-u8 ⊗ fits-end) freemain.Pre freemain.Post
+pub freemain-of-a-part : RuledOut (λ k. fits-Frees) freemain.Pre freemain.Post
     (λ k a. answering (a .0) (λ s. freesAnyLength s (a .1 .0) (a .1 .1 .0) (a .1 .1 .1 .0) (a .1 .1 .1 .1 .0)))
 unfolding tables-open
 freemain-of-a-part =
     wrong-at tt (tables oneArea, (task 1, (address 0, (8, (10, tt))))) refl tt (λ o. eqb (o .number) 0) refl refl
 
 -- no area goes
-pub freemain-leaves-the-area :
-    RuledOut (λ k. fits-Tables ⊗ fits-TaskNumber ⊗ fits-Address ⊗ fits-u32 ⊗ fits-u8 ⊗ fits-end) freemain.Pre freemain.Post
+pub freemain-leaves-the-area : RuledOut (λ k. fits-Frees) freemain.Pre freemain.Post
     (λ k a. answering (a .0) (λ s. but (freemainOf s (a .1 .0) (a .1 .1 .0) (a .1 .1 .1 .0) (a .1 .1 .1 .1 .0))
     (λ u. withAreas u (s .areas))))
 unfolding tables-open
@@ -435,21 +492,10 @@ freemain-leaves-the-area =
 
 -- the code of an END is lost on the way: the ECB of 2 is to have 7
 abbrev codeless : Request → Request
-codeless (Attach c lpmod dpmod e) = Attach c lpmod dpmod e
-codeless (Detach c t) = Detach c t
-codeless (End c code) = End c 0
-codeless (Abend c code step) = Abend c code step
-codeless (Enq c ret) = Enq c ret
-codeless (Deq c ret) = Deq c ret
-codeless (Wait c n) = Wait c n
-codeless (Post c e code) = Post c e code
-codeless (Clear c e) = Clear c e
-codeless (Getmain c bytes subpool conditional) = Getmain c bytes subpool conditional
-codeless (Freemain c at bytes subpool) = Freemain c at bytes subpool
-codeless Dispatch = Dispatch
+codeless r =
+    byService r r (λ c code. End c 0) r r (λ e. r) (λ c bytes subpool conditional. r) r r
 
-pub serve-loses-the-code :
-    RuledOutWith (λ k. fits-Tables ⊗ fits-Request ⊗ fits-NameList ⊗ fits-EcbList ⊗ fits-lent ⊗ fits-end) serve.Pre serve.Post
+pub serve-loses-the-code : RuledOutWith (λ k. fits-Serves) serve.Pre serve.Post
     (λ k a. coding a (λ s area. serviceOf s (codeless (a .1 .0)) (namesIn (a .1 .1 .0)) (ecbsIn (a .1 .1 .1 .0)) area))
 unfolding tables-open
 serve-loses-the-code =
@@ -460,11 +506,33 @@ serve-loses-the-code =
 abbrev uncoded : Step → Request → Names → Ecbs → List ℕ → Served Step
 uncoded s r ns es area = record { outcome = serviceOf s r ns es area .outcome; codes = area }
 
-pub serve-writes-no-code :
-    RuledOutWith (λ k. fits-Tables ⊗ fits-Request ⊗ fits-NameList ⊗ fits-EcbList ⊗ fits-lent ⊗ fits-end) serve.Pre serve.Post
+pub serve-writes-no-code : RuledOutWith (λ k. fits-Serves) serve.Pre serve.Post
     (λ k a. coding a (λ s area. uncoded s (a .1 .0) (namesIn (a .1 .1 .0)) (ecbsIn (a .1 .1 .1 .0)) area))
 unfolding tables-open
 serve-writes-no-code =
     wrong-with ([], tt)
     (tablesOf start, (Enq (task 1) Test, (namesOf (exc x ∷ []), (ecbsOf [], (lent (238 ∷ []), tt))))) refl tt
     (λ o. eqb (getD (o .codes) 0 0) 238) refl refl
+
+-- values are told by another kind: the number of ATTACH as an address, the address of GETMAIN as a number
+abbrev retold : Step → Request → Names → Ecbs → List ℕ → Served Step
+retold s r ns es area = record {
+  outcome = retelling (serviceOf s r ns es area .outcome);
+  codes = serviceOf s r ns es area .codes;
+}
+
+pub serve-answers-an-address : RuledOutWith (λ k. fits-Serves) serve.Pre serve.Post
+    (λ k a. coding a (λ s area. retold s (a .1 .0) (namesIn (a .1 .1 .0)) (ecbsIn (a .1 .1 .1 .0)) area))
+unfolding tables-open
+serve-answers-an-address =
+    wrong-with ([], tt)
+    (tablesOf start, (Attach (task 1) 0 (pos 0) NoEcb, (namesOf [], (ecbsOf [], (lent [], tt))))) refl tt
+    (λ o. eqb (kindOf (o .outcome .besides)) 2) refl refl
+
+pub serve-answers-a-number : RuledOutWith (λ k. fits-Serves) serve.Pre serve.Post
+    (λ k a. coding a (λ s area. retold s (a .1 .0) (namesIn (a .1 .1 .0)) (ecbsIn (a .1 .1 .1 .0)) area))
+unfolding tables-open
+serve-answers-a-number =
+    wrong-with ([], tt)
+    (tables oneArea, (Getmain (task 1) 8 10 false, (namesOf [], (ecbsOf [], (lent [], tt))))) refl tt
+    (λ o. eqb (kindOf (o .outcome .besides)) 3) refl refl

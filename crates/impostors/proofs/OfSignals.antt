@@ -1,4 +1,4 @@
--- Wrong answers that the contracts of `signals` rule out. Assumes nothing.
+-- Wrong answers that the contracts of `signals` rule out.
 use Prim.Native.Nat.{ℕ, _-_}
 use mathlib.Core.Path.{refl}
 use mathlib.Core.Bool.{Bool, true, false, not, _||_}
@@ -39,7 +39,8 @@ use Rattle.signals.proofs.ending.sweep.Reads as sweep
 use Rattle.signals.proofs.wait.waited.Reads as waited
 use Rattle.signals.proofs.posts.posted.Reads as posted
 use Rattle.signals.proofs.clears.cleared.Reads as cleared
-use Rattle.impostors.specs.Fitting.{_⊗_, fits-EcbList, fits-EcbNumber, fits-Events, fits-Family, fits-TaskNumber, fits-end, fits-u32}
+use Rattle.impostors.specs.Fitting.{_⊗_, fits-EcbList, fits-EcbNumber, fits-Events, fits-Family, fits-TaskNumber}
+use Rattle.impostors.specs.Fitting.{fits-end, fits-u32}
 use Rattle.impostors.specs.Opened.{tables-open}
 use Rattle.impostors.specs.Wrong.{RuledOut, wrong-at, told-apart}
 use Rattle.impostors.specs.Samples.{task, ecb, ecbsOf}
@@ -171,18 +172,25 @@ waitedBy goes posts e f w l n =
     signalledBy (waitVerdict (e .ecbs) l n)
     (pick (goes (completeOf (e .ecbs) l) n) (record { tasks = f .places; ecbs = e .ecbs })
     (record {
-      tasks = withPlace (f .places) w (withCondition (place (f .places) w) (EcbWait (posts (completeOf (e .ecbs) l) n)));
+      tasks =
+          withPlace (f .places) w
+          (withCondition (place (f .places) w) (EcbWait (posts (completeOf (e .ecbs) l) n)));
       ecbs = mapAt (waitSet w l) 0 (e .ecbs);
     }))
     e f
 
+abbrev Waits : Type 0
+Waits = Events × (Family × (TaskNumber × (EcbList × (ℕ × Unit {0}))))
+
+abbrev fits-Waits : Waits → Bool
+fits-Waits = fits-Events ⊗ fits-Family ⊗ fits-TaskNumber ⊗ fits-EcbList ⊗ fits-u32 ⊗ fits-end
+
 -- task 2 waits for n of ECBs 0, 1 and 2, of which ECB 0 is complete
-abbrev waitFor : ℕ → Events × (Family × (TaskNumber × (EcbList × (ℕ × Unit {0}))))
+abbrev waitFor : ℕ → Waits
 waitFor n = (oneComplete, (two, (task 2, (ecbsOf (0 ∷ 1 ∷ 2 ∷ []), (n, tt)))))
 
 -- it waits for as many posts as the count says, 2, and not for the one that is missing
-pub waited-for-the-whole-count :
-    RuledOut (λ k. fits-Events ⊗ fits-Family ⊗ fits-TaskNumber ⊗ fits-EcbList ⊗ fits-u32 ⊗ fits-end) waited.Pre waited.Post
+pub waited-for-the-whole-count : RuledOut (λ k. fits-Waits) waited.Pre waited.Post
     (λ k a. waitedBy (λ c n. leb n c) (λ c n. n)
     (a .0) (a .1 .0) (a .1 .1 .0 .0) (ecbsIn (a .1 .1 .1 .0)) (a .1 .1 .1 .1 .0))
 unfolding tables-open
@@ -191,8 +199,7 @@ waited-for-the-whole-count =
     (λ r. sameCondition (conditionOf (r .tables .family .places) 2) (EcbWait 2)) refl refl
 
 -- one complete ECB is enough: it goes on, with a count of 2
-pub waited-goes-on-with-too-few :
-    RuledOut (λ k. fits-Events ⊗ fits-Family ⊗ fits-TaskNumber ⊗ fits-EcbList ⊗ fits-u32 ⊗ fits-end) waited.Pre waited.Post
+pub waited-goes-on-with-too-few : RuledOut (λ k. fits-Waits) waited.Pre waited.Post
     (λ k a. waitedBy (λ c n. leb n c || leb 1 c) (λ c n. n - c)
     (a .0) (a .1 .0) (a .1 .1 .0 .0) (ecbsIn (a .1 .1 .1 .0)) (a .1 .1 .1 .1 .0))
 unfolding tables-open
@@ -207,8 +214,7 @@ bitsAnyway e f w l n =
     (record { tasks = waitedIn (f .places) (e .ecbs) w l n .tasks; ecbs = mapAt (waitSet w l) 0 (e .ecbs) })
     e f
 
-pub waited-bits-without-a-wait :
-    RuledOut (λ k. fits-Events ⊗ fits-Family ⊗ fits-TaskNumber ⊗ fits-EcbList ⊗ fits-u32 ⊗ fits-end) waited.Pre waited.Post
+pub waited-bits-without-a-wait : RuledOut (λ k. fits-Waits) waited.Pre waited.Post
     (λ k a. bitsAnyway (a .0) (a .1 .0) (a .1 .1 .0 .0) (ecbsIn (a .1 .1 .1 .0)) (a .1 .1 .1 .1 .0))
 unfolding tables-open
 waited-bits-without-a-wait =

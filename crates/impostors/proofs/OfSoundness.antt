@@ -1,4 +1,4 @@
--- Wrong answers that the contracts of `soundness` rule out. Assumes nothing.
+-- Wrong answers that the contracts of `soundness` rule out.
 use Prim.Native.Nat.{ℕ, zero, suc}
 use mathlib.Core.Path.{_≡_, refl}
 use mathlib.Core.Bool.{Bool, true, false, not, _&&_}
@@ -15,27 +15,30 @@ use Rattle.kinds.specs.declared.tasks.Condition.the-variants.{Free, Ready, EcbW
 use Rattle.kinds.specs.declared.tasks.MaybeEcb.{MaybeEcb}
 use Rattle.kinds.specs.declared.tasks.MaybeEcb.the-variants.{NoEcb, Named}
 use Rattle.rules.specs.Control.{Entry}
-use Rattle.rules.specs.Steps.{Step, withTasks, withQueue, withEcbs, withAreas, overStep}
+use Rattle.rules.specs.Steps.{Step, withTasks, withQueue, withEcbs, withAreas, withState, overStep}
 use Rattle.rules.specs.Family.{withPlace}
 use Rattle.rules.specs.Enq.{entryFor}
-use Rattle.rules.specs.SoundTasks.{jobStepGood, mothersGood, prioritiesGood, taskEcbsGood, endedTasksGood, freePlacesGood, zeroTask}
+use Rattle.rules.specs.SoundTasks.{jobStepGood, mothersGood, prioritiesGood, taskEcbsGood, endedTasksGood}
+use Rattle.rules.specs.SoundTasks.{freePlacesGood, zeroTask}
 use Rattle.rules.specs.SoundQueue.{entriesLive, entriesOnce, entryNamesGood, waitsGood}
 use Rattle.rules.specs.SoundEcbs.{waitersGood, needsGood, ecbWordsGood, zeroEcb}
 use Rattle.rules.specs.SoundAreas.{areaShapesGood, areaOwnersGood, areasRise, areasApart}
+use Rattle.rules.specs.Sound.{sizesGood}
 use Rattle.rules.specs.HandCases.{area}
 use Rattle.rules.specs.Table.{rowOf, named, shr, exc}
 use Rattle.history.specs.Samples.{start, x}
 use Rattle.family.specs.Families.{familyOf}
 use Rattle.family.specs.declared.Family.{Family}
-use Rattle.queue.specs.Queues.{live, stored, packedb}
+use Rattle.queue.specs.Queues.{entriesIn, storedEntries, packedEntries}
 use Rattle.queue.specs.declared.Queue.{Queue}
 use Rattle.events.specs.Blocks.{eventsOf}
 use Rattle.events.specs.declared.Events.{Events}
-use Rattle.storage.specs.Stored.{live as liveAreas, stored as storedAreas, packedb as packedAreas}
+use Rattle.storage.specs.Stored.{areasIn, storedAreas, packedAreas}
 use Rattle.storage.specs.declared.Storage.{Storage}
-use Rattle.soundness.specs.Rules.{sizesGood, soundTables}
+use Rattle.soundness.specs.Tables.{soundTables}
 use Rattle.soundness.proofs.sound.Reads as sound
-use Rattle.impostors.specs.Fitting.{_⊗_, fits-Events, fits-Family, fits-Queue, fits-Storage, fits-bool, fits-end, fits-u16}
+use Rattle.impostors.specs.Fitting.{_⊗_, fits-Events, fits-Family, fits-Queue, fits-Storage, fits-bool, fits-end}
+use Rattle.impostors.specs.Fitting.{fits-u16}
 use Rattle.impostors.specs.Opened.{tables-open}
 use Rattle.impostors.specs.Wrong.{RuledOut, wrong-at}
 use Rattle.impostors.specs.Samples.{task, ecb, after, oneDaughter, awaited}
@@ -51,16 +54,16 @@ abbrev withTables : Step → Queue → Storage → Given
 withTables s q l = (s .over, (s .code, (familyOf (s .tasks), (q, (eventsOf (s .ecbs), (l, tt))))))
 
 abbrev given : Step → Given
-given s = withTables s (stored (s .queue)) (storedAreas (s .areas))
+given s = withTables s (storedEntries (s .queue)) (storedAreas (s .areas))
 
 abbrev stepIn : Given → Step
 stepIn a = record {
   over = a .0;
   code = a .1 .0;
   tasks = a .1 .1 .0 .places;
-  queue = live (a .1 .1 .1 .0);
+  queue = entriesIn (a .1 .1 .1 .0);
   ecbs = a .1 .1 .1 .1 .0 .ecbs;
-  areas = liveAreas (a .1 .1 .1 .1 .1 .0);
+  areas = areasIn (a .1 .1 .1 .1 .1 .0);
 }
 
 -- what is promised
@@ -110,7 +113,7 @@ allBut (suc n) (b ∷ l) = b && allBut n l
 -- packed tables, and a step judged in another way
 abbrev judged : (Step → Bool) → Given → Bool
 judged f a =
-    packedb (a .1 .1 .1 .0)
+    packedEntries (a .1 .1 .1 .0)
     && (packedAreas (a .1 .1 .1 .1 .1 .0) && (sizesGood (stepIn a .tasks) (stepIn a .ecbs) && f (stepIn a)))
 
 -- by all rules but the n-th of a step that runs, or of one that is over
@@ -133,17 +136,17 @@ row s n k mother limit dispatching e = withTasks s (withPlace (s .tasks) n (rowO
 
 abbrev word : Step → ℕ → ℕ → Bool → ℕ → Step
 word s n waiter complete code =
-    withEcbs s (s .tasks) (set (s .ecbs) n (record { waiter = task waiter; complete = complete; code = code }))
+    withEcbs s (set (s .ecbs) n (record { waiter = task waiter; complete = complete; code = code }))
 
 abbrev entries : Step → List Entry → Step
-entries s q = withQueue s (s .tasks) q
+entries s q = withQueue s q
 
 abbrev coded : Step → ℕ → Step
-coded s code = record { over = s .over; code = code; tasks = s .tasks; queue = s .queue; ecbs = s .ecbs; areas = s .areas }
+coded s code = withState s (s .over) code
 
 -- an entry and an area that are not counted
 abbrev uncounted : Queue
-uncounted = record { slots = stored (entryFor 1 (exc x) ∷ []) .slots; count = 0 }
+uncounted = record { slots = storedEntries (entryFor 1 (exc x) ∷ []) .slots; count = 0 }
 
 abbrev leftOver : Storage
 leftOver = record { areas = storedAreas (area 0 8 5 1 ∷ []) .areas; count = 0 }
@@ -272,16 +275,16 @@ sound-with-a-code-while-it-runs = wrong-at tt (given (coded two 1)) refl tt (λ 
 -- whether the queue is packed is not tested: an unused place is not zero
 pub sound-with-an-unused-entry-not-zero :
     RuledOut takes sound.Pre sound.Post
-    (λ k a. soundIn (withTables (stepIn a) (stored (live (a .1 .1 .1 .0))) (a .1 .1 .1 .1 .1 .0)))
+    (λ k a. soundIn (withTables (stepIn a) (storedEntries (entriesIn (a .1 .1 .1 .0))) (a .1 .1 .1 .1 .1 .0)))
 unfolding tables-open
 sound-with-an-unused-entry-not-zero = wrong-at tt (withTables two uncounted (storedAreas [])) refl tt (λ b. b) refl refl
 
 -- whether the area table is packed is not tested: an unused place is not zero
 pub sound-with-an-unused-area-not-zero :
     RuledOut takes sound.Pre sound.Post
-    (λ k a. soundIn (withTables (stepIn a) (a .1 .1 .1 .0) (storedAreas (liveAreas (a .1 .1 .1 .1 .1 .0)))))
+    (λ k a. soundIn (withTables (stepIn a) (a .1 .1 .1 .0) (storedAreas (areasIn (a .1 .1 .1 .1 .1 .0)))))
 unfolding tables-open
-sound-with-an-unused-area-not-zero = wrong-at tt (withTables two (stored []) leftOver) refl tt (λ b. b) refl refl
+sound-with-an-unused-area-not-zero = wrong-at tt (withTables two (storedEntries []) leftOver) refl tt (λ b. b) refl refl
 
 -- on a step that is over
 

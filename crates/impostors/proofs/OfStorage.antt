@@ -1,4 +1,4 @@
--- Wrong answers that the contracts of `storage` rule out. Assumes nothing.
+-- Wrong answers that the contracts of `storage` rule out.
 use mathlib.Core.Path.{refl}
 use mathlib.Core.Bool.{Bool, not, _&&_}
 use mathlib.Core.List.{List, [], _∷_, _++_, map}
@@ -14,7 +14,7 @@ use Rattle.kinds.specs.declared.areas.Area.{Area}
 use Rattle.rules.specs.Storage.{startOf, oneHolder, bytesApart, apart, insertedIn, sameArea}
 use Rattle.rules.specs.SoundAreas.{areaShapesGood, areasRise, areasApart}
 use Rattle.rules.specs.HandCases.{area}
-use Rattle.storage.specs.Stored.{live, stored, Packed, isZero, restZero}
+use Rattle.storage.specs.Stored.{areasIn, storedAreas, PackedAreas, isZero, restZero}
 use Rattle.storage.specs.Kept.{stored-packed}
 use Rattle.storage.specs.declared.Storage.{Storage}
 use Rattle.storage.proofs.empty.Reads as empty
@@ -43,22 +43,22 @@ three = area 16 8 5 1
 abbrev long : Area
 long = area 0 16 5 1
 
-packed-two : (x y : Area) → Packed (stored (x ∷ y ∷ []))
+packed-two : (x y : Area) → PackedAreas (storedAreas (x ∷ y ∷ []))
 packed-two x y = stored-packed (x ∷ y ∷ []) _ refl (omega arith)
 
-packed-one : (x : Area) → Packed (stored (x ∷ []))
+packed-one : (x : Area) → PackedAreas (storedAreas (x ∷ []))
 packed-one x = stored-packed (x ∷ []) _ refl (omega arith)
 
 -- a storage holds these areas, within its count
 abbrev holds : List Area → Storage → Bool
-holds l s = sameBy sameArea (live s) l
+holds l s = sameBy sameArea (areasIn s) l
 
 -- with other places
 abbrev among : Storage → List Area → Storage
 among s l = record { areas = l; count = s .count }
 
 -- an unused place counts as an area
-pub empty-one-counted : RuledOut (λ k. fits-end) empty.Pre empty.Post (λ k a. stored (noArea ∷ []))
+pub empty-one-counted : RuledOut (λ k. fits-end) empty.Pre empty.Post (λ k a. storedAreas (noArea ∷ []))
 empty-one-counted = wrong-at tt tt refl tt (λ s. eqb (s .count) 1) refl refl
 
 -- nothing is counted, but the places are not cleared
@@ -71,100 +71,105 @@ empty-not-cleared = wrong-at tt tt refl tt (λ s. sameArea (getD (s .areas) 0 no
 pub packed-whatever-is-unused : RuledOut (λ k. fits-Storage ⊗ fits-end) packed.Pre packed.Post
     (λ k a. leb (a .0 .count) mostAreas)
 unfolding tables-open
-packed-whatever-is-unused = wrong-at tt (among (stored []) (stored (one ∷ []) .areas), tt) refl tt (λ b. b) refl refl
+packed-whatever-is-unused =
+    wrong-at tt (among (storedAreas []) (storedAreas (one ∷ []) .areas), tt) refl tt (λ b. b) refl refl
 
 -- only the first unused place is looked at: the first is zero and the second is not
 pub packed-by-one-place :
     RuledOut (λ k. fits-Storage ⊗ fits-end) packed.Pre packed.Post
     (λ k a. leb (a .0 .count) mostAreas && isZero (getD (a .0 .areas) (a .0 .count) noArea))
 unfolding tables-open
-packed-by-one-place = wrong-at tt (among (stored []) (stored (noArea ∷ one ∷ []) .areas), tt) refl tt (λ b. b) refl refl
+packed-by-one-place =
+    wrong-at tt (among (storedAreas []) (storedAreas (noArea ∷ one ∷ []) .areas), tt) refl tt (λ b. b) refl refl
 
 -- a full table does not pass
 pub packed-not-full : RuledOut (λ k. fits-Storage ⊗ fits-end) packed.Pre packed.Post
     (λ k a. ltb (a .0 .count) mostAreas && restZero (a .0))
 unfolding tables-open
-packed-not-full = wrong-at tt (stored (replicate mostAreas one), tt) refl tt not refl refl
+packed-not-full = wrong-at tt (storedAreas (replicate mostAreas one), tt) refl tt not refl refl
 
 -- 128 are too many
 pub areas-fit-not-128 : RuledOut (λ k. fits-Storage ⊗ fits-end) areas-fit.Pre areas-fit.Post
     (λ k a. ltb (a .0 .count) mostAreas)
 unfolding tables-open
-areas-fit-not-128 = wrong-at tt (stored (replicate mostAreas one), tt) refl (omega arith) not refl refl
+areas-fit-not-128 = wrong-at tt (storedAreas (replicate mostAreas one), tt) refl (omega arith) not refl refl
 
 -- as the count of a list, from 1 on: a storage with no area does not fit
 pub areas-fit-not-0 : RuledOut (λ k. fits-Storage ⊗ fits-end) areas-fit.Pre areas-fit.Post
     (λ k a. between 1 mostAreas (a .0 .count))
 unfolding tables-open
-areas-fit-not-0 = wrong-at tt (stored [], tt) refl (omega arith) not refl refl
+areas-fit-not-0 = wrong-at tt (storedAreas [], tt) refl (omega arith) not refl refl
 
 -- the first area is not looked at: it has no bytes
 pub shapes-good-but-the-first : RuledOut (λ k. fits-Storage ⊗ fits-end) shapes-good.Pre shapes-good.Post
-    (λ k a. areaShapesGood (drop 1 (live (a .0))))
+    (λ k a. areaShapesGood (drop 1 (areasIn (a .0))))
 unfolding tables-open
-shapes-good-but-the-first = wrong-at tt (stored (area 0 0 5 1 ∷ two ∷ []), tt) refl (omega arith) (λ b. b) refl refl
+shapes-good-but-the-first =
+    wrong-at tt (storedAreas (area 0 0 5 1 ∷ two ∷ []), tt) refl (omega arith) (λ b. b) refl refl
 
 -- unused places are looked at too, and have no bytes
 pub shapes-good-of-unused-places : RuledOut (λ k. fits-Storage ⊗ fits-end) shapes-good.Pre shapes-good.Post
     (λ k a. areaShapesGood (a .0 .areas))
 unfolding tables-open
-shapes-good-of-unused-places = wrong-at tt (stored (one ∷ []), tt) refl (omega arith) not refl refl
+shapes-good-of-unused-places = wrong-at tt (storedAreas (one ∷ []), tt) refl (omega arith) not refl refl
 
 -- two areas may start at one address
 pub areas-rise-or-are-level :
     RuledOut (λ k. fits-Storage ⊗ fits-end) areas-rise.Pre areas-rise.Post
-    (λ k a. pairwise (λ (x : Area) (y : Area). leb (startOf x) (startOf y)) (live (a .0)))
+    (λ k a. pairwise (λ (x : Area) (y : Area). leb (startOf x) (startOf y)) (areasIn (a .0)))
 unfolding tables-open
-areas-rise-or-are-level = wrong-at tt (stored (one ∷ long ∷ []), tt) refl (omega arith) (λ b. b) refl refl
+areas-rise-or-are-level = wrong-at tt (storedAreas (one ∷ long ∷ []), tt) refl (omega arith) (λ b. b) refl refl
 
 -- the first area is not looked at: it stands above the second
 pub areas-rise-but-the-first : RuledOut (λ k. fits-Storage ⊗ fits-end) areas-rise.Pre areas-rise.Post
-    (λ k a. areasRise (drop 1 (live (a .0))))
+    (λ k a. areasRise (drop 1 (areasIn (a .0))))
 unfolding tables-open
-areas-rise-but-the-first = wrong-at tt (stored (two ∷ one ∷ three ∷ []), tt) refl (omega arith) (λ b. b) refl refl
+areas-rise-but-the-first = wrong-at tt (storedAreas (two ∷ one ∷ three ∷ []), tt) refl (omega arith) (λ b. b) refl refl
 
 -- only bytes are judged: tasks 1 and 2 on one page
 pub areas-apart-on-one-page : RuledOut (λ k. fits-Storage ⊗ fits-end) areas-apart.Pre areas-apart.Post
-    (λ k a. pairwise bytesApart (live (a .0)))
+    (λ k a. pairwise bytesApart (areasIn (a .0)))
 unfolding tables-open
-areas-apart-on-one-page = wrong-at tt (stored (one ∷ area 8 8 5 2 ∷ []), tt) refl (omega arith) (λ b. b) refl refl
+areas-apart-on-one-page = wrong-at tt (storedAreas (one ∷ area 8 8 5 2 ∷ []), tt) refl (omega arith) (λ b. b) refl refl
 
 -- an area is compared with itself too, and meets itself
 pub areas-apart-from-themselves :
     RuledOut (λ k. fits-Storage ⊗ fits-end) areas-apart.Pre areas-apart.Post
-    (λ k a. every (λ (x : Area). every (apart x) (live (a .0))) (live (a .0)))
+    (λ k a. every (λ (x : Area). every (apart x) (areasIn (a .0))) (areasIn (a .0)))
 unfolding tables-open
-areas-apart-from-themselves = wrong-at tt (stored (one ∷ []), tt) refl (omega arith) not refl refl
+areas-apart-from-themselves = wrong-at tt (storedAreas (one ∷ []), tt) refl (omega arith) not refl refl
 
 -- the first area is not looked at: it meets the second
 pub areas-apart-but-the-first : RuledOut (λ k. fits-Storage ⊗ fits-end) areas-apart.Pre areas-apart.Post
-    (λ k a. areasApart (drop 1 (live (a .0))))
+    (λ k a. areasApart (drop 1 (areasIn (a .0))))
 unfolding tables-open
-areas-apart-but-the-first = wrong-at tt (stored (long ∷ two ∷ []), tt) refl (omega arith) (λ b. b) refl refl
+areas-apart-but-the-first = wrong-at tt (storedAreas (long ∷ two ∷ []), tt) refl (omega arith) (λ b. b) refl refl
 
 -- it goes behind all others, and one at 0 behind one at 8
 pub insert-at-the-end : RuledOut (λ k. fits-Storage ⊗ fits-Area ⊗ fits-end) insert.Pre insert.Post
-    (λ k a. stored (live (a .0) ++ (a .1 .0 ∷ [])))
+    (λ k a. storedAreas (areasIn (a .0) ++ (a .1 .0 ∷ [])))
 unfolding tables-open
 insert-at-the-end =
-    wrong-at tt (stored (two ∷ []), (one, tt)) refl (packed-one two, omega arith) (holds (two ∷ one ∷ [])) refl refl
+    wrong-at tt (storedAreas (two ∷ []), (one, tt)) refl (packed-one two, omega arith)
+    (holds (two ∷ one ∷ [])) refl refl
 
 -- it goes before one of the same address
 pub insert-before-an-equal :
     RuledOut (λ k. fits-Storage ⊗ fits-Area ⊗ fits-end) insert.Pre insert.Post
-    (λ k a. stored (keep (λ (b : Area). ltb (startOf b) (startOf (a .1 .0))) (live (a .0))
-    ++ (a .1 .0 ∷ keep (λ (b : Area). leb (startOf (a .1 .0)) (startOf b)) (live (a .0)))))
+    (λ k a. storedAreas (keep (λ (b : Area). ltb (startOf b) (startOf (a .1 .0))) (areasIn (a .0))
+    ++ (a .1 .0 ∷ keep (λ (b : Area). leb (startOf (a .1 .0)) (startOf b)) (areasIn (a .0)))))
 unfolding tables-open
 insert-before-an-equal =
-    wrong-at tt (stored (one ∷ []), (long, tt)) refl (packed-one one, omega arith) (holds (long ∷ one ∷ [])) refl refl
+    wrong-at tt (storedAreas (one ∷ []), (long, tt)) refl (packed-one one, omega arith)
+    (holds (long ∷ one ∷ [])) refl refl
 
 -- it is put in and not counted
 pub insert-not-counted :
     RuledOut (λ k. fits-Storage ⊗ fits-Area ⊗ fits-end) insert.Pre insert.Post
-    (λ k a. among (a .0) (stored (insertedIn (a .1 .0) (live (a .0))) .areas))
+    (λ k a. among (a .0) (storedAreas (insertedIn (a .1 .0) (areasIn (a .0))) .areas))
 unfolding tables-open
 insert-not-counted =
-    wrong-at tt (stored (one ∷ []), (two, tt)) refl (packed-one one, omega arith) (λ s. eqb (s .count) 1) refl refl
+    wrong-at tt (storedAreas (one ∷ []), (two, tt)) refl (packed-one one, omega arith) (λ s. eqb (s .count) 1) refl refl
 
 -- the same address, length and subpool
 abbrev alikeButOwners : Area → Area → Bool
@@ -173,30 +178,31 @@ alikeButOwners x y = eqb (startOf x) (startOf y) && (eqb (x .size) (y .size) && 
 -- whoever owns it: task 2 has the area that is looked for
 pub has-area-of-another-task :
     RuledOut (λ k. fits-Storage ⊗ fits-Area ⊗ fits-end) has-area.Pre has-area.Post
-    (λ k a. some (alikeButOwners (a .1 .0)) (live (a .0)))
+    (λ k a. some (alikeButOwners (a .1 .0)) (areasIn (a .0)))
 unfolding tables-open
-has-area-of-another-task = wrong-at tt (stored (area 0 8 5 2 ∷ []), (one, tt)) refl (omega arith) (λ b. b) refl refl
+has-area-of-another-task =
+    wrong-at tt (storedAreas (area 0 8 5 2 ∷ []), (one, tt)) refl (omega arith) (λ b. b) refl refl
 
 -- unused places are looked at too: an area of zeros is found in a storage with none
 pub has-area-in-unused-places : RuledOut (λ k. fits-Storage ⊗ fits-Area ⊗ fits-end) has-area.Pre has-area.Post
     (λ k a. some (sameArea (a .1 .0)) (a .0 .areas))
 unfolding tables-open
-has-area-in-unused-places = wrong-at tt (stored [], (noArea, tt)) refl (omega arith) (λ b. b) refl refl
+has-area-in-unused-places = wrong-at tt (storedAreas [], (noArea, tt)) refl (omega arith) (λ b. b) refl refl
 
 -- only the first area is looked at
 pub has-area-by-the-first-alone :
     RuledOut (λ k. fits-Storage ⊗ fits-Area ⊗ fits-end) has-area.Pre has-area.Post
-    (λ k a. some (sameArea (a .1 .0)) (take 1 (live (a .0))))
+    (λ k a. some (sameArea (a .1 .0)) (take 1 (areasIn (a .0))))
 unfolding tables-open
-has-area-by-the-first-alone = wrong-at tt (stored (one ∷ two ∷ []), (two, tt)) refl (omega arith) not refl refl
+has-area-by-the-first-alone = wrong-at tt (storedAreas (one ∷ two ∷ []), (two, tt)) refl (omega arith) not refl refl
 
 -- all areas of its owner in its subpool go
 pub without-all-of-its-owner :
     RuledOut (λ k. fits-Storage ⊗ fits-Area ⊗ fits-end) without.Pre without.Post
-    (λ k a. stored (keep (λ (b : Area). not (oneHolder (a .1 .0) b)) (live (a .0))))
+    (λ k a. storedAreas (keep (λ (b : Area). not (oneHolder (a .1 .0) b)) (areasIn (a .0))))
 unfolding tables-open
 without-all-of-its-owner =
-    wrong-at tt (stored (one ∷ two ∷ []), (one, tt)) refl (packed-two one two) (λ s. eqb (s .count) 0) refl refl
+    wrong-at tt (storedAreas (one ∷ two ∷ []), (one, tt)) refl (packed-two one two) (λ s. eqb (s .count) 0) refl refl
 
 -- a gap is left where it stood
 pub without-closing-the-gap :
@@ -204,11 +210,12 @@ pub without-closing-the-gap :
     (λ k a. among (a .0) (map (λ (b : Area). pick (sameArea (a .1 .0) b) noArea b) (a .0 .areas)))
 unfolding tables-open
 without-closing-the-gap =
-    wrong-at tt (stored (one ∷ two ∷ []), (one, tt)) refl (packed-two one two) (holds (noArea ∷ two ∷ [])) refl refl
+    wrong-at tt (storedAreas (one ∷ two ∷ []), (one, tt)) refl (packed-two one two)
+    (holds (noArea ∷ two ∷ [])) refl refl
 
 -- the area stays and the others go
 pub without-the-others : RuledOut (λ k. fits-Storage ⊗ fits-Area ⊗ fits-end) without.Pre without.Post
-    (λ k a. stored (keep (sameArea (a .1 .0)) (live (a .0))))
+    (λ k a. storedAreas (keep (sameArea (a .1 .0)) (areasIn (a .0))))
 unfolding tables-open
 without-the-others =
-    wrong-at tt (stored (one ∷ two ∷ []), (one, tt)) refl (packed-two one two) (holds (one ∷ [])) refl refl
+    wrong-at tt (storedAreas (one ∷ two ∷ []), (one, tt)) refl (packed-two one two) (holds (one ∷ [])) refl refl

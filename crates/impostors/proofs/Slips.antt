@@ -1,10 +1,10 @@
--- EACH SLIP IS CAUGHT by the case that we paid for: no service that makes it meets the contract of `serve`. Assumes
--- nothing.
+-- EACH SLIP IS CAUGHT by the case that we paid for: no service that makes it meets the contract of `serve`.
 use Prim.Native.Nat.{ℕ}
 use mathlib.Core.Path.{_≡_, refl}
 use mathlib.Core.Bool.{Bool, true, not, _&&_}
 use mathlib.Core.List.{[], _∷_}
 use lib.Dec.{eqb}
+use Rattle.kinds.specs.Replies.{valueOf}
 use Rattle.kinds.specs.Tasks.{inResourceWait}
 use Rattle.kinds.specs.declared.requests.Request.the-variants.{Detach}
 use Rattle.kinds.specs.declared.requests.DeqRet.the-variants.{None as DeqNone}
@@ -16,12 +16,15 @@ use Rattle.history.specs.Samples.{start, x}
 use Rattle.services.specs.declared.Tables.{Tables}
 use Rattle.impostors.specs.Opened.{tables-open}
 use Rattle.impostors.specs.Impostors.{Given, Service, Caught, caught, on}
-use Rattle.impostors.specs.Slips.{SlipsCaught, doing, joining, holdingBack, wakingEarly, replacing, joinsOwners, forgetsHeldBack, wakesAtFirstGrant, replacesCode, judgesFirstPage, reusesNothing}
-use Rattle.impostors.specs.Samples.{Asking, task, alone, deq, post, getmain, freemain, after, sharedByTwo, fifth, behindFour, bothAsked, postedOnce, oneArea, midPage}
+use Rattle.impostors.specs.Slips.{SlipsCaught, doing, joining, holdingBack, wakingEarly, replacing, joinsOwners}
+use Rattle.impostors.specs.Slips.{forgetsHeldBack, wakesAtFirstGrant, replacesCode, judgesFirstPage}
+use Rattle.impostors.specs.Slips.{reusesNothing}
+use Rattle.impostors.specs.Samples.{Asking, task, alone, deq, post, getmain, freemain, after, sharedByTwo, fifth}
+use Rattle.impostors.specs.Samples.{behindFour, bothAsked, postedOnce, oneArea, midPage}
 
 -- task n is in a resource wait
-abbrev waits : ℕ → Served Tables → Bool
-waits n o = inResourceWait (conditionOf (o .outcome .tables .family .places) n)
+abbrev waits : ℕ → Tables → Bool
+waits n t = inResourceWait (conditionOf (t .family .places) n)
 
 -- What is answered is computed first, without the other service; antt then need not carry that along.
 
@@ -29,38 +32,42 @@ waits n o = inResourceWait (conditionOf (o .outcome .tables .family .places) n)
 abbrev fifth-asks : Given
 fifth-asks = on (after start sharedByTwo) fifth
 
-goes-past : not (waits 5 (doing fifth-asks (joining fifth))) ≡ true
+goes-past : not (waits 5 (doing fifth-asks (joining fifth) .outcome .tables)) ≡ true
 unfolding tables-open
 goes-past = refl
 
 pub joining-caught : (f : Service) → Caught (joinsOwners f)
 unfolding tables-open
-joining-caught f = caught (joinsOwners f) fifth-asks refl (λ o. not (waits 5 o)) goes-past refl
+joining-caught f = caught (joinsOwners f) fifth-asks refl (λ o. not (waits 5 (o .outcome .tables))) goes-past refl
 
 -- CASE 4: then 4 is detached, and 5 owns x with 2 and 3
 abbrev detach-4 : Asking
 detach-4 = alone (Detach (task 1) (task 4))
 
-still-waits : waits 5 (doing (on (after start behindFour) detach-4) (holdingBack detach-4)) ≡ true
+still-waits : waits 5 (doing (on (after start behindFour) detach-4) (holdingBack detach-4) .outcome .tables) ≡ true
 unfolding tables-open
 still-waits = refl
 
 pub held-back-caught : (f : Service) → Caught (forgetsHeldBack f)
 unfolding tables-open
-held-back-caught f = caught (forgetsHeldBack f) (on (after start behindFour) detach-4) refl (waits 5) still-waits refl
+held-back-caught f =
+    caught (forgetsHeldBack f) (on (after start behindFour) detach-4) refl
+    (λ o. waits 5 (o .outcome .tables)) still-waits
+    refl
 
 -- 4 waits for x and y: when 2 gives x back, it still waits for y
 abbrev deq-x : Asking
 deq-x = deq 2 DeqNone 0 (exc x ∷ [])
 
-goes-on-early : not (waits 4 (doing (on (after start bothAsked) deq-x) (wakingEarly deq-x))) ≡ true
+goes-on-early : not (waits 4 (doing (on (after start bothAsked) deq-x) (wakingEarly deq-x) .outcome .tables)) ≡ true
 unfolding tables-open
 goes-on-early = refl
 
 pub first-grant-caught : (f : Service) → Caught (wakesAtFirstGrant f)
 unfolding tables-open
 first-grant-caught f =
-    caught (wakesAtFirstGrant f) (on (after start bothAsked) deq-x) refl (λ o. not (waits 4 o)) goes-on-early refl
+    caught (wakesAtFirstGrant f) (on (after start bothAsked) deq-x) refl
+    (λ o. not (waits 4 (o .outcome .tables))) goes-on-early refl
 
 -- ECB 3 is complete with 5, and is posted with 7: its code stays 5
 abbrev has-7 : Served Tables → Bool
@@ -79,7 +86,7 @@ pub first-page-caught : (f : Service) → Caught (judgesFirstPage f)
 unfolding tables-open
 first-page-caught f =
     caught (judgesFirstPage f) (on (after start midPage) (getmain 1 5000 10)) refl
-    (λ o. eqb (o .outcome .besides) 0 && eqb (o .outcome .number) 0) refl refl
+    (λ o. eqb (valueOf (o .outcome .besides)) 0 && eqb (o .outcome .number) 0) refl refl
 
 -- the one area is freed: none is left
 pub reusing-nothing-caught : (f : Service) → Caught (reusesNothing f)

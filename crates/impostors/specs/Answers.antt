@@ -1,41 +1,22 @@
--- ANSWERS MADE FROM THE RULES: of a service that is right but for one thing. Assumes nothing.
+-- ANSWERS MADE FROM THE RULES: of a service that is right but for one thing.
 use Prim.Native.Nat.{ℕ}
-use mathlib.Core.Bool.{cond}
+use mathlib.Core.Path.{_≡_, refl}
 use mathlib.Core.List.{List}
-use lib.Dec.{eqb}
 use denote.Ref.{RefT, now, at-last}
-use Rattle.kinds.specs.declared.replies.Refusal.the-variants.{Unsound, OutOfRange, NotLive, Waits, ShortCodes, NoEntryFree, NoTaskFree, NoAreaFree, StepOver, WaitBitOn}
-use Rattle.kinds.specs.declared.replies.Fault.the-variants.{DuplicateEnq, DeqWithoutEntry, AlreadyWaitedOn, CountTooLarge, NoStorage, NoSuchArea, HasSubtasks, NotSubtask}
+use Rattle.kinds.specs.Replies.{numberOf, Besides, besidesIn, valueOf, doneBy, replyOf}
+use Rattle.kinds.specs.Replies.Besides.{NoValue, NewNumber, TheAddress, TheNumber}
 use Rattle.kinds.specs.declared.replies.Reply.{Reply}
-use Rattle.kinds.specs.declared.replies.Reply.the-variants.{Done, Four, Refused, Failed}
 use Rattle.rules.specs.Steps.{Step, Outcome, Served}
 use Rattle.services.specs.Kept.{answered, answeredWith}
 use Rattle.services.specs.declared.Tables.{Tables}
 use Rattle.services.specs.declared.Answer.{Answer}
 
--- the reply of this number and this value; done, where no reply has the number
-abbrev replyOf : ℕ → ℕ → Reply
-replyOf n v =
-    cond (eqb n 4) Four
-    (cond (eqb n 100) (Refused Unsound)
-    (cond (eqb n 101) (Refused OutOfRange)
-    (cond (eqb n 102) (Refused NotLive)
-    (cond (eqb n 103) (Refused Waits)
-    (cond (eqb n 104) (Refused ShortCodes)
-    (cond (eqb n 105) (Refused NoEntryFree)
-    (cond (eqb n 106) (Refused NoTaskFree)
-    (cond (eqb n 107) (Refused NoAreaFree)
-    (cond (eqb n 108) (Refused StepOver)
-    (cond (eqb n 109) (Refused WaitBitOn)
-    (cond (eqb n 201) (Failed DuplicateEnq)
-    (cond (eqb n 202) (Failed DeqWithoutEntry)
-    (cond (eqb n 203) (Failed AlreadyWaitedOn)
-    (cond (eqb n 204) (Failed CountTooLarge)
-    (cond (eqb n 205) (Failed NoStorage)
-    (cond (eqb n 206) (Failed NoSuchArea)
-    (cond (eqb n 207) (Failed HasSubtasks)
-    (cond (eqb n 208) (Failed NotSubtask)
-    (Done v)))))))))))))))))))
+-- it says 0, and what goes besides
+pub done-says : (b : Besides) → (numberOf (doneBy b) ≡ 0) × (besidesIn (doneBy b) ≡ b)
+done-says NoValue = (refl, refl)
+done-says (NewNumber t) = (refl, refl)
+done-says (TheAddress a) = (refl, refl)
+done-says (TheNumber t) = (refl, refl)
 
 -- an answer that says an outcome
 abbrev pub answerOf : Outcome Tables → Answer
@@ -52,9 +33,40 @@ but o f = record { number = o .number; besides = o .besides; tables = f (o .tabl
 abbrev pub butServed : Served Step → (Step → Step) → Served Step
 butServed o f = record { outcome = but (o .outcome) f; codes = o .codes }
 
--- the same of a service that is lent a codes area, its fifth parameter: the answer, and what the parameters are at the
--- end
-abbrev pub coding : {B C D : Type 0} → Tables × (B × (C × (D × (RefT (List ℕ) × Unit {0})))) → (Step → List ℕ → Served Step)
+-- VALUES OF ANOTHER KIND, the same to whoever looks at number and value alone: a new task's number is told as an
+-- address, an address as the number of the task to go on with, and that as a new task's
+abbrev pub otherKind : Besides → Besides
+otherKind NoValue = NoValue
+otherKind (NewNumber t) = TheAddress (record { 0 = t .0 })
+otherKind (TheAddress a) = TheNumber (record { 0 = a .0 })
+otherKind (TheNumber t) = NewNumber t
+
+pub other-kind-same-value : (b : Besides) → valueOf (otherKind b) ≡ valueOf b
+other-kind-same-value NoValue = refl
+other-kind-same-value (NewNumber t) = refl
+other-kind-same-value (TheAddress a) = refl
+other-kind-same-value (TheNumber t) = refl
+
+-- the kinds by number: none, a new task's, an address, that of the task to go on with
+abbrev pub kindOf : Besides → ℕ
+kindOf NoValue = 0
+kindOf (NewNumber t) = 1
+kindOf (TheAddress a) = 2
+kindOf (TheNumber t) = 3
+
+-- a reply and an outcome with their value so told
+abbrev pub retold : Reply → Reply
+retold r = replyOf (numberOf r) (otherKind (besidesIn r))
+
+abbrev pub retelling : Outcome Step → Outcome Step
+retelling o = record { number = o .number; besides = otherKind (o .besides); tables = o .tables }
+
+-- LENT AREAS
+
+-- what is answered by a service that is lent a codes area, its fifth
+-- parameter: the answer, and what the parameters are at the end
+abbrev pub coding : {B C D : Type 0} → Tables × (B × (C × (D × (RefT (List ℕ) × Unit {0}))))
+    → (Step → List ℕ → Served Step)
     → Answer × (Tables × (B × (C × (D × (RefT (List ℕ) × Unit {0})))))
 coding a f =
     let area = a .1 .1 .1 .1 .0 in

@@ -1,8 +1,7 @@
--- WHAT FITS ITS TYPE: numbers within their widths, arrays of their lengths. A contract's lists and numbers may be any;
--- a counterexample is one that
--- code can be given, so each is held to the types of its function's parameters, `fits-T` for the type T. Assumes
--- nothing.
-use Prim.Native.Nat.{ℕ}
+-- WHAT FITS ITS TYPE: numbers within their widths, arrays of their lengths. A contract's
+-- lists and numbers may be any; a counterexample is one that code can be given, so each
+-- is held to the types of its function's parameters, `fits-T` for the type T.
+use Prim.Native.Nat.{ℕ, _+_}
 use mathlib.Core.Bool.{Bool, true, _&&_}
 use mathlib.Core.List.{List}
 use lib.Dec.{eqb, leb, ltb}
@@ -10,6 +9,7 @@ use lib.IntN.{ℤ, natAbs}
 use lib.ListN.{length}
 use denote.Ref.{RefT, now}
 use Rattle.lists.specs.Lists.{every}
+use Rattle.kinds.specs.Limits.{highestTask, longestList, majorBytes, longestMinor, mostEntries, allEcbs, mostAreas}
 use Rattle.kinds.specs.declared.numbers.TaskNumber.{TaskNumber}
 use Rattle.kinds.specs.declared.numbers.EcbNumber.{EcbNumber}
 use Rattle.kinds.specs.declared.numbers.Address.{Address}
@@ -26,12 +26,13 @@ use Rattle.kinds.specs.declared.tasks.Condition.the-variants.{Free, Ready, Reso
 use Rattle.kinds.specs.declared.tasks.MaybeEcb.{MaybeEcb}
 use Rattle.kinds.specs.declared.tasks.MaybeEcb.the-variants.{NoEcb, Named}
 use Rattle.kinds.specs.declared.requests.Request.{Request}
-use Rattle.kinds.specs.declared.requests.Request.the-variants.{Attach, Detach, End, Abend, Enq, Deq, Wait, Post, Clear, Getmain, Freemain, Dispatch}
+use Rattle.kinds.specs.declared.requests.Request.the-variants.{Attach, Detach, End, Abend, Enq, Deq, Wait, Post, Clear}
+use Rattle.kinds.specs.declared.requests.Request.the-variants.{Getmain, Freemain, Dispatch}
 use Rattle.kinds.specs.declared.requests.Ret.{Ret}
 use Rattle.kinds.specs.declared.requests.DeqRet.{DeqRet}
 use Rattle.kinds.specs.declared.replies.Fault.{Fault}
 use Rattle.kinds.specs.declared.replies.Reply.{Reply}
-use Rattle.kinds.specs.declared.replies.Reply.the-variants.{Done, Four, Refused, Failed}
+use Rattle.kinds.specs.declared.replies.Reply.the-variants.{Done, Attached, Got, Dispatched, Four, Refused, Failed}
 use Rattle.family.specs.declared.Family.{Family}
 use Rattle.queue.specs.declared.Queue.{Queue}
 use Rattle.queue.specs.declared.marks.Marks.{Marks}
@@ -82,13 +83,13 @@ abbrev pub fits-Address : Address → Bool
 fits-Address a = fits-u32 (a .0)
 
 abbrev pub fits-Name : Name → Bool
-fits-Name n = array 8 fits-u8 (n .major) && (array 44 fits-u8 (n .minor) && fits-u16 (n .length))
+fits-Name n = array majorBytes fits-u8 (n .major) && (array longestMinor fits-u8 (n .minor) && fits-u16 (n .length))
 
 abbrev pub fits-Wanted : Wanted → Bool
 fits-Wanted w = fits-Name (w .name)
 
 abbrev pub fits-NameList : NameList → Bool
-fits-NameList l = fits-u32 (l .count) && array 16 fits-Wanted (l .names)
+fits-NameList l = fits-u32 (l .count) && array longestList fits-Wanted (l .names)
 
 abbrev pub fits-Slot : Slot → Bool
 fits-Slot s = fits-TaskNumber (s .task) && fits-Name (s .name)
@@ -97,7 +98,7 @@ abbrev pub fits-Ecb : Ecb → Bool
 fits-Ecb e = fits-TaskNumber (e .waiter) && fits-u32 (e .code)
 
 abbrev pub fits-EcbList : EcbList → Bool
-fits-EcbList l = fits-u32 (l .count) && array 16 fits-EcbNumber (l .ecbs)
+fits-EcbList l = fits-u32 (l .count) && array longestList fits-EcbNumber (l .ecbs)
 
 abbrev pub fits-Area : Area → Bool
 fits-Area a = (fits-Address (a .start) && fits-u32 (a .size)) && (fits-u8 (a .subpool) && fits-TaskNumber (a .owner))
@@ -128,7 +129,10 @@ abbrev pub fits-Fault : Fault → Bool
 fits-Fault f = true
 
 abbrev pub fits-Reply : Reply → Bool
-fits-Reply (Done v) = fits-u32 v
+fits-Reply Done = true
+fits-Reply (Attached t) = fits-TaskNumber t
+fits-Reply (Got a) = fits-Address a
+fits-Reply (Dispatched t) = fits-TaskNumber t
 fits-Reply Four = true
 fits-Reply (Refused why) = true
 fits-Reply (Failed what) = true
@@ -144,31 +148,32 @@ fits-Request (Wait c n) = fits-TaskNumber c && fits-u32 n
 fits-Request (Post c e code) = fits-TaskNumber c && (fits-EcbNumber e && fits-u32 code)
 fits-Request (Clear c e) = fits-TaskNumber c && fits-EcbNumber e
 fits-Request (Getmain c bytes subpool conditional) = fits-TaskNumber c && (fits-u32 bytes && fits-u8 subpool)
-fits-Request (Freemain c address bytes subpool) = (fits-TaskNumber c && fits-Address address) && (fits-u32 bytes && fits-u8 subpool)
+fits-Request (Freemain c address bytes subpool) =
+    (fits-TaskNumber c && fits-Address address) && (fits-u32 bytes && fits-u8 subpool)
 fits-Request Dispatch = true
 
 -- TABLES
 
 abbrev pub fits-Family : Family → Bool
-fits-Family f = array 32 fits-Task (f .places)
+fits-Family f = array highestTask fits-Task (f .places)
 
 abbrev pub fits-Queue : Queue → Bool
-fits-Queue q = array 128 fits-Slot (q .slots) && fits-usize (q .count)
+fits-Queue q = array mostEntries fits-Slot (q .slots) && fits-usize (q .count)
 
 abbrev pub fits-Marks : Marks → Bool
-fits-Marks m = array 33 fits-bool (m .tasks)
+fits-Marks m = array (highestTask + 1) fits-bool (m .tasks)
 
 abbrev pub fits-Flags : Flags → Bool
-fits-Flags f = array 16 fits-bool (f .of)
+fits-Flags f = array longestList fits-bool (f .of)
 
 abbrev pub fits-Codes : Codes → Bool
-fits-Codes k = array 16 fits-u8 (k .bytes)
+fits-Codes k = array longestList fits-u8 (k .bytes)
 
 abbrev pub fits-Events : Events → Bool
-fits-Events e = array 64 fits-Ecb (e .ecbs)
+fits-Events e = array allEcbs fits-Ecb (e .ecbs)
 
 abbrev pub fits-Storage : Storage → Bool
-fits-Storage s = array 128 fits-Area (s .areas) && fits-usize (s .count)
+fits-Storage s = array mostAreas fits-Area (s .areas) && fits-usize (s .count)
 
 abbrev pub fits-Whole : Whole → Bool
 fits-Whole w =

@@ -1,12 +1,12 @@
 -- IMPOSTORS: whole services that look like ours and are not. The first is made from any choice of refusals, the others
--- from
--- any other service, of which they keep all but their vice; so each stands for many. Assumes nothing.
+-- from any other service, of which they keep all but their vice; so each stands for many.
 use Prim.Native.Nat.{ℕ}
 use mathlib.Core.Path.{_≡_}
 use mathlib.Core.Bool.{Bool, true, false, _&&_}
 use mathlib.Core.List.{List, [], map}
 use denote.Ref.{RefT}
 use Rattle.lists.specs.Lists.{every}
+use Rattle.kinds.specs.Replies.{Besides, doneBy}
 use Rattle.kinds.specs.Tasks.{withCondition}
 use Rattle.kinds.specs.declared.numbers.TaskNumber.{TaskNumber}
 use Rattle.kinds.specs.declared.numbers.EcbNumber.{EcbNumber}
@@ -14,11 +14,12 @@ use Rattle.kinds.specs.declared.tasks.Task.{Task}
 use Rattle.kinds.specs.declared.names.NameList.{NameList}
 use Rattle.kinds.specs.declared.ecbs.EcbList.{EcbList}
 use Rattle.kinds.specs.declared.requests.Request.{Request}
-use Rattle.kinds.specs.declared.requests.Request.the-variants.{Attach, Detach, End, Abend, Enq, Deq, Wait, Post, Clear, Getmain, Freemain, Dispatch}
+use Rattle.kinds.specs.declared.requests.Request.the-variants.{Attach, Detach, End, Abend, Enq, Deq, Wait, Post, Clear}
+use Rattle.kinds.specs.declared.requests.Request.the-variants.{Getmain, Freemain, Dispatch}
 use Rattle.kinds.specs.declared.replies.Refusal.{Refusal}
-use Rattle.kinds.specs.declared.replies.Reply.the-variants.{Done, Refused}
+use Rattle.kinds.specs.declared.replies.Reply.the-variants.{Refused}
 use Rattle.rules.specs.Steps.{Step, Served}
-use Rattle.rules.specs.Waits.{letGo}
+use Rattle.rules.specs.ResourceWaits.{letGo}
 use Rattle.family.specs.Families.{familyOf}
 use Rattle.services.specs.Kept.{tablesOf, withFamily, saidWith}
 use Rattle.services.specs.Serve.{servedOf}
@@ -44,11 +45,14 @@ Service = Given → Back
 -- a service keeps the contract of `serve` where this is given, wherever the codes area is lent from (its lifetime, its
 -- pointer, its ghost name)
 abbrev pub Keeps : Service → Given → Type 0
-Keeps f g = (κ : List ℕ) (p : ℕ × ℕ) (γ : ℕ) → serve.Post (κ, tt) (lent p γ (g .asking .area)) (f g .answer) (lent p γ (f g .codes))
+Keeps f g =
+    (κ : List ℕ) (p : ℕ × ℕ) (γ : ℕ)
+    → serve.Post (κ, tt) (lent p γ (g .asking .area)) (f g .answer) (lent p γ (f g .codes))
   where
     lent : ℕ × ℕ → ℕ → List ℕ → Tables × (Request × (NameList × (EcbList × (RefT (List ℕ) × Unit {0}))))
     lent p γ area =
-        (g .tables, (g .asking .request, (g .asking .names, (g .asking .ecbs, (record { ptr = p; name = γ; now = area }, tt)))))
+        let r : RefT (List ℕ) = record { ptr = p; name = γ; now = area } in
+        (g .tables, (g .asking .request, (g .asking .names, (g .asking .ecbs, (r, tt)))))
 
 -- what is given fits the types of the parameters
 abbrev pub fits-Given : Given → Bool
@@ -76,29 +80,31 @@ abbrev pub promised : Given → Served Tables
 promised g = servedOf (g .tables) (asked (g .asking))
 
 -- caught by a test that tells the two apart
-pub caught : (f : Service) (g : Given) → fits-Given g ≡ true → (test : Served Tables → Bool) → test (says f g) ≡ true → test (promised g) ≡ false → Caught f
+pub caught : (f : Service) (g : Given) → fits-Given g ≡ true → (test : Served Tables → Bool) → test (says f g) ≡ true
+    → test (promised g) ≡ false → Caught f
 caught f g t test h n = record { given = g; fitting = t; by = λ k. told-apart (k [] (0, 0) 0) test h n }
 
 -- with other tables
 abbrev pub back : Back → Tables → Back
 back b t = record { answer = record { tables = t; reply = b .answer .reply }; codes = b .codes }
 
--- by the service that is asked for: what a DETACH, an ENQ, a DEQ, a POST, a GETMAIN and a FREEMAIN come to, and first
--- all others
-abbrev pub byService : {X : Type 0} → X → (TaskNumber → X) → (TaskNumber → X) → (TaskNumber → X) → (EcbNumber → ℕ → X)
+-- by the service that is asked for: what a DETACH, an END, an ENQ, a
+-- DEQ, a POST, a GETMAIN and a FREEMAIN come to, and first all others
+abbrev pub byService : {X : Type 0} → X → X → (TaskNumber → ℕ → X) → X → X → (EcbNumber → X)
     → (TaskNumber → ℕ → ℕ → Bool → X) → X → Request → X
-byService x detach enq deq post getmain freemain (Attach c lpmod dpmod ecb) = x
-byService x detach enq deq post getmain freemain (Detach c task) = detach task
-byService x detach enq deq post getmain freemain (End c code) = x
-byService x detach enq deq post getmain freemain (Abend c code step) = x
-byService x detach enq deq post getmain freemain (Enq c ret) = enq c
-byService x detach enq deq post getmain freemain (Deq c ret) = deq c
-byService x detach enq deq post getmain freemain (Wait c n) = x
-byService x detach enq deq post getmain freemain (Post c e code) = post e code
-byService x detach enq deq post getmain freemain (Clear c e) = x
-byService x detach enq deq post getmain freemain (Getmain c bytes subpool conditional) = getmain c bytes subpool conditional
-byService x detach enq deq post getmain freemain (Freemain c address bytes subpool) = freemain
-byService x detach enq deq post getmain freemain Dispatch = x
+byService x detach end enq deq post getmain freemain (Attach c lpmod dpmod ecb) = x
+byService x detach end enq deq post getmain freemain (Detach c task) = detach
+byService x detach end enq deq post getmain freemain (End c code) = end c code
+byService x detach end enq deq post getmain freemain (Abend c code step) = x
+byService x detach end enq deq post getmain freemain (Enq c ret) = enq
+byService x detach end enq deq post getmain freemain (Deq c ret) = deq
+byService x detach end enq deq post getmain freemain (Wait c n) = x
+byService x detach end enq deq post getmain freemain (Post c e code) = post e
+byService x detach end enq deq post getmain freemain (Clear c e) = x
+byService x detach end enq deq post getmain freemain (Getmain c bytes subpool conditional) =
+    getmain c bytes subpool conditional
+byService x detach end enq deq post getmain freemain (Freemain c address bytes subpool) = freemain
+byService x detach end enq deq post getmain freemain Dispatch = x
 
 -- a request on the tables that keep a step
 abbrev pub on : Step → Asking → Given
@@ -111,8 +117,9 @@ abbrev pub refusesAll : (Given → Refusal) → Service
 refusesAll why g = record { answer = record { tables = g .tables; reply = Refused (why g) }; codes = g .asking .area }
 
 -- "one that always says 0", whatever it says besides
-abbrev pub saysZero : (Given → ℕ) → Service → Service
-saysZero besides f g = record { answer = record { tables = f g .answer .tables; reply = Done (besides g) }; codes = f g .codes }
+abbrev pub saysZero : (Given → Besides) → Service → Service
+saysZero besides f g =
+    record { answer = record { tables = f g .answer .tables; reply = doneBy (besides g) }; codes = f g .codes }
 
 -- "one that copies the tables back untouched"
 abbrev pub copiesBack : Service → Service
@@ -124,15 +131,15 @@ allGo ts = map (λ (x : Task). withCondition x (letGo (x .condition))) ts
 
 abbrev pub grantsAtOnce : Service → Service
 grantsAtOnce f g =
-    byService (f g) (λ task. f g)
-    (λ c. back (f g) (withFamily (f g .answer .tables) (familyOf (allGo (f g .answer .tables .family .places)))))
-    (λ c. back (f g) (withFamily (f g .answer .tables) (g .tables .family)))
-    (λ e code. f g) (λ c bytes subpool conditional. f g) (f g) (g .asking .request)
+    byService (f g) (f g) (λ c code. f g)
+    (back (f g) (withFamily (f g .answer .tables) (familyOf (allGo (f g .answer .tables .family .places)))))
+    (back (f g) (withFamily (f g .answer .tables) (g .tables .family)))
+    (λ e. f g) (λ c bytes subpool conditional. f g) (f g) (g .asking .request)
 
 -- none of them meets the contract of `serve`
 pub record ImpostorsCaught : Type 0 where
   pub refusing : (why : Given → Refusal) → Caught (refusesAll why)
-  pub saying-zero : (besides : Given → ℕ) (f : Service) → Caught (saysZero besides f)
+  pub saying-zero : (besides : Given → Besides) (f : Service) → Caught (saysZero besides f)
   pub copying : (f : Service) → Caught (copiesBack f)
   pub granting-at-enq : (f : Service) → Caught (grantsAtOnce f)
   pub granting-at-deq : (f : Service) → Caught (grantsAtOnce f)

@@ -1,6 +1,5 @@
 -- THE TABLES OPEN, under one name: a proof that says `unfolding tables-open` computes with every definition of document
--- 01 and with the tables that
--- keep a step. Assumes nothing.
+-- 01 and with the tables that keep a step.
 use Rattle.lists.specs.Once.{onceFrom}
 use Rattle.lists.specs.Tables.{padded}
 use Rattle.kinds.specs.Ranges.{taskChecked, ecbChecked, addressChecked}
@@ -8,23 +7,23 @@ use Rattle.rules.specs.Opened.{rules-open}
 use Rattle.laws.specs.Waking.{wakeAt}
 use Rattle.laws.specs.Wiping.{wipeAt}
 use Rattle.names.specs.Named.{shown}
-use Rattle.queue.specs.Queues.{isFine, isZero, allFine, restZero, packedb}
+use Rattle.queue.specs.Queues.{isFine, isZero, allFine, restZero, packedEntries}
 use Rattle.queue.specs.Marking.{markedBy, withMark}
 use Rattle.flags.specs.Flagging.{flagsOf, someSet, allSet}
-use Rattle.asks.specs.Coding.{codesOf, queuingCode, changeCode, releaseCode}
+use Rattle.asks.specs.Coding.{codesOf}
 use Rattle.events.specs.Blocks.{tallyFrom}
-use Rattle.waits.specs.Waits.{waitedBy}
-use Rattle.storage.specs.Stored.{isZero as isZeroArea, restZero as restZeroAreas, packedb as packedAreas}
+use Rattle.ecbwaits.specs.Waits.{waitedBy}
+use Rattle.storage.specs.Stored.{isZero as isZeroArea, restZero as restZeroAreas, packedAreas}
 use Rattle.rooms.specs.Found.{placeFor}
 use Rattle.locks.specs.Waiting.{wakeIf}
 use Rattle.signals.specs.Posts.{signalsOf}
 use Rattle.signals.specs.Served.{waitedIn}
-use Rattle.soundness.specs.Rules.{runningRules, overRules, soundTables}
 use Rattle.services.specs.Kept.{soundb, answered, answeredWith}
 use Rattle.services.specs.Serve.{servedOf}
 
 unfoldable pub tables-open : Unit {0}
-unfolding rules-open onceFrom padded taskChecked ecbChecked addressChecked wakeAt wipeAt shown isFine isZero allFine restZero packedb markedBy withMark flagsOf
-    someSet allSet codesOf queuingCode changeCode releaseCode tallyFrom waitedBy isZeroArea restZeroAreas packedAreas placeFor wakeIf signalsOf waitedIn
-    runningRules overRules soundTables soundb answered answeredWith servedOf
+unfolding rules-open onceFrom padded taskChecked ecbChecked addressChecked wakeAt wipeAt shown isFine isZero allFine
+    restZero packedEntries markedBy withMark flagsOf someSet allSet codesOf
+    tallyFrom waitedBy isZeroArea restZeroAreas packedAreas placeFor wakeIf signalsOf waitedIn soundb answered
+    answeredWith servedOf
 tables-open = tt

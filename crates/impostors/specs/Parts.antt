@@ -1,4 +1,4 @@
--- PARTS OF TABLES that counterexamples are made of. Assumes nothing.
+-- PARTS OF TABLES that counterexamples are made of.
 use Prim.Native.Nat.{ℕ, _+_}
 use mathlib.Core.Bool.{Bool, false, not, cond, _&&_, _||_}
 use mathlib.Core.List.{List, [], _∷_}

@@ -1,5 +1,4 @@
--- WHAT WRONG ANSWERS ARE TRIED BY: requests with their lists, and the steps that they lead to from a fresh one. Assumes
--- nothing.
+-- WHAT WRONG ANSWERS ARE TRIED BY: requests with their lists, and the steps that they lead to from a fresh one.
 use Prim.Native.Nat.{ℕ}
 use mathlib.Core.Bool.{Bool, true, false, _&&_}
 use mathlib.Core.List.{List, [], _∷_, map}
@@ -34,7 +33,10 @@ abbrev wanted : Ask → Wanted
 wanted a = record { exclusive = a .exclusive; name = kept (a .name) }
 
 abbrev nothing : Wanted
-nothing = record { exclusive = false; name = record { major = replicate majorBytes 0; minor = replicate longestMinor 0; length = 0 } }
+nothing = record {
+  exclusive = false;
+  name = record { major = replicate majorBytes 0; minor = replicate longestMinor 0; length = 0 };
+}
 
 abbrev pub namesOf : List Ask → NameList
 namesOf l = record { count = length l; names = padded longestList nothing (map wanted l) }

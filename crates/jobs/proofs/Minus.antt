@@ -1,5 +1,5 @@
--- A number below 32,767 with a minus fits an `i16`. Assumes nothing.
-use mathlib.Core.Path.{_≡_, sym, subst}
+-- A number below 32,767 with a minus fits an `i16`.
+use mathlib.Core.Path.{sym, subst}
 use mathlib.Core.Bool.{Bool, true, false, cond}
 use Prim.Native.Nat.{ℕ, zero, suc, _-_, _<_, _^_}
 use native.Mathlib.Omega.{arith}
@@ -19,4 +19,5 @@ size (suc k) h = one (ltb 0 (suc k))
     one false = omega arith
 
 pub minus-fits : (n : ℕ) → n < 32767 → SFits w16 (pos 0 -ℤ toZ w16 n)
-minus-fits n h = subst (λ (z : ℤ). SFits w16 (pos 0 -ℤ z)) (sym (toZ-pos w16 n (omega arith))) (record { sfits = size n h })
+minus-fits n h =
+    subst (λ (z : ℤ). SFits w16 (pos 0 -ℤ z)) (sym (toZ-pos w16 n (omega arith))) (record { sfits = size n h })

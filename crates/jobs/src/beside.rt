@@ -1,19 +1,20 @@
 // The lists of a line, which stand beside its request: the words that are left.
 use crate::name;
 use crate::number;
+use crate::sizes::MOST_LISTED;
 use crate::word;
 use kinds::EcbList;
 use kinds::EcbNumber;
 use kinds::NameList;
 use kinds::Wanted;
 
-// Whether all of the words are names, and the first 16 of them.
+// Whether all of the words are names, and as many of them as a request may have.
 pub(crate) struct Names {
     pub(crate) good: bool,
     pub(crate) list: NameList,
 }
 
-// Whether all of the words are numbers, and the first 16 of them.
+// Whether all of the words are numbers, and as many of them as a request may have.
 pub(crate) struct Ecbs {
     pub(crate) good: bool,
     pub(crate) list: EcbList,
@@ -25,9 +26,6 @@ struct Read {
     wanted: Wanted,
     next: usize,
 }
-
-// More on a line are not readable.
-const MOST: u32 = 20;
 
 pub(crate) fn no_names() -> NameList {
     let name = name::zero();
@@ -103,7 +101,7 @@ pub(crate) fn read_names(line: &[u8], at: usize, marks: bool) -> Names {
     let mut next = at;
     let mut count: u32 = 0;
     while !word::none_at(line, next) {
-        if MOST <= count {
+        if MOST_LISTED <= count {
             return Names { good: false, list };
         }
         let a = asked(line, next, marks);
@@ -127,7 +125,7 @@ pub(crate) fn read_ecbs(line: &[u8], at: usize) -> Ecbs {
     let mut next = at;
     let mut count: u32 = 0;
     while !word::none_at(line, next) {
-        if MOST <= count {
+        if MOST_LISTED <= count {
             return Ecbs { good: false, list };
         }
         let n = number::read(line, next);

@@ -1,9 +1,9 @@
 // What a line asks for, by its first word.
 use crate::fields;
-use crate::input;
 use crate::keys;
 use crate::number;
 use crate::plain;
+use crate::sizes::LONGEST_LINE;
 use crate::word;
 use kinds::DeqRet;
 use kinds::Request;
@@ -36,7 +36,7 @@ pub(crate) enum Form {
 
 // An empty line, or a remark, asks for nothing.
 pub(crate) fn is_nothing(line: &[u8]) -> bool {
-    if input::LONGEST < line.len() {
+    if LONGEST_LINE < line.len() {
         return false;
     }
     if line.len() == 0 {
@@ -46,7 +46,7 @@ pub(crate) fn is_nothing(line: &[u8]) -> bool {
 }
 
 pub(crate) fn read(line: &[u8]) -> Form {
-    if input::LONGEST < line.len() {
+    if LONGEST_LINE < line.len() {
         return Form::Unreadable;
     }
     let at = word::after(line, 0);

@@ -1,17 +1,14 @@
 // Standard input, read in blocks and taken line by line.
 use crate::failure;
+use crate::sizes::LONGEST_LINE;
 ghost use mathlib.Core.Path.{_≡_};
 ghost use Prim.Native.Nat.{_+_, _≤_};
 ghost use lib.ListN.{length};
+ghost use Rattle.jobs.specs.Sizes.{blockSize, longestLine};
 ghost use Rattle.jobs.specs.Spans.{Within};
 
-pub(crate) const BLOCK: usize = 65536;
-
-// A longer line is not readable, whatever it holds.
-pub(crate) const LONGEST: usize = 16383;
-
-// The block has `end` bytes of the input. The line is from..to, and what comes after it starts at `next`. The input is over where it has no line any
-// more, or where a read failed.
+// The block has `end` bytes of the input. The line is from..to, and what comes after it starts at `next`. The input is
+// over where it has no line any more, or where a read failed.
 pub(crate) struct Span {
     pub(crate) over: bool,
     pub(crate) failed: bool,
@@ -83,7 +80,7 @@ fn to_front(block: &mut [u8], from: usize, end: usize)
 
 // The next line of a block whose bytes from..end were not yet taken.
 pub(crate) fn line(block: &mut [u8], from: usize, end: usize) -> Span
-    requires { ⌜ (from ≤ end) × (end ≤ 65536) × (length (now block) ≡ 65536) ⌝ }
+    requires { ⌜ (from ≤ end) × (end ≤ blockSize) × (length (now block) ≡ blockSize) ⌝ }
     ensures { λ r. ⌜ Within r ⌝ }
 {
     let to = line_end(block, from, end);
@@ -97,7 +94,7 @@ pub(crate) fn line(block: &mut [u8], from: usize, end: usize) -> Span
             end,
         };
     }
-    if LONGEST < end - from {
+    if LONGEST_LINE < end - from {
         return rest_of_long(block);
     }
     to_front(block, from, end);
@@ -106,11 +103,11 @@ pub(crate) fn line(block: &mut [u8], from: usize, end: usize) -> Span
 
 // The line whose first bytes are all that the block has; more is read until it ends or is too long.
 fn longer(block: &mut [u8], kept: usize) -> Span
-    requires { ⌜ (kept ≤ 16383) × (length (now block) ≡ 65536) ⌝ }
+    requires { ⌜ (kept ≤ longestLine) × (length (now block) ≡ blockSize) ⌝ }
     ensures { λ r. ⌜ Within r ⌝ }
 {
     let mut end = kept;
-    while end <= LONGEST {
+    while end <= LONGEST_LINE {
         let got = filled(block, end);
         if got.failed {
             return cut();
@@ -137,7 +134,7 @@ fn longer(block: &mut [u8], kept: usize) -> Span
 
 // The last line, with no LF, or none.
 fn last(end: usize) -> Span
-    requires { ⌜ end ≤ 16383 ⌝ }
+    requires { ⌜ end ≤ longestLine ⌝ }
     ensures { λ r. ⌜ Within r ⌝ }
 {
     Span {
@@ -166,7 +163,7 @@ fn cut() -> Span
 
 // The rest of a line that is too long is passed over.
 fn rest_of_long(block: &mut [u8]) -> Span
-    requires { ⌜ length (now block) ≡ 65536 ⌝ }
+    requires { ⌜ length (now block) ≡ blockSize ⌝ }
     ensures { λ r. ⌜ Within r ⌝ }
 {
     let mut turns = u64::MAX;
@@ -190,14 +187,14 @@ fn rest_of_long(block: &mut [u8]) -> Span
 
 // As many bytes of the block as no line has stand for a line that is too long.
 fn long(next: usize, end: usize) -> Span
-    requires { ⌜ (next ≤ end) × (end ≤ 65536) ⌝ }
+    requires { ⌜ (next ≤ end) × (end ≤ blockSize) ⌝ }
     ensures { λ r. ⌜ Within r ⌝ }
 {
     Span {
         over: false,
         failed: false,
         from: 0,
-        to: LONGEST + 1,
+        to: LONGEST_LINE + 1,
         next,
         end,
     }

@@ -1,4 +1,5 @@
-// Job scripts: requests as lines of text, answered line by line. Reading decides nothing about a request; `services` answers it.
+// Job scripts: requests as lines of text, answered line by line.
+// Reading decides nothing about a request; `services` answers it.
 mod area_row;
 mod beside;
 mod dpmod;
@@ -22,6 +23,7 @@ mod poking;
 mod raw;
 mod saying;
 mod script;
+mod sizes;
 mod task_row;
 mod text;
 mod turn;

@@ -1,9 +1,10 @@
-// The lines of a dump, one for each place that has a field not zero: a word, the place's number and the raw fields, one space between.
+// The lines of a dump, one for each place that has a field not zero:
+// a word, the place's number and the raw fields, one space between.
 use crate::area_row::RawArea;
 use crate::ecb_row::RawEcb;
 use crate::entry_row::RawEntry;
+use crate::sizes::BLOCK;
 use crate::task_row::RawTask;
-use crate::text::BLOCK;
 use crate::text::put;
 use crate::text::put_byte;
 use crate::text::put_bytes_hex;

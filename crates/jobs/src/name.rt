@@ -1,10 +1,16 @@
-// Names of a line: 16 digits, a point, the digits of the minor part, and a slash and a length where it is not that of the bytes given.
+// Names of a line: the digits of the major part, a point, those of the minor part, and a slash and a length where it is
+// not that of the bytes given.
 use crate::hex;
 use crate::number;
+use crate::sizes::HIGHEST_LENGTH;
+use crate::sizes::MAJOR_DIGITS;
+use crate::sizes::MINOR_DIGITS;
+use crate::sizes::MOST_GIVEN;
 use crate::word;
 use kinds::Name;
 ghost use Prim.Native.Nat.{_+_, _*_, _≤_};
 ghost use lib.ListN.{length};
+ghost use Rattle.jobs.specs.Sizes.{highestLength, majorDigits};
 
 // A word read as a name. Where it is none, `good` is false and the rest says nothing.
 pub(crate) struct Named {
@@ -31,19 +37,15 @@ struct Length {
     value: u16,
 }
 
-const MOST_DIGITS: usize = 600;
-
-const HIGHEST_LENGTH: u32 = 300;
-
 // The major part at `at`.
 fn read_major(line: &[u8], at: usize) -> Major
-    requires { ⌜ at + 16 ≤ length (now line) ⌝ }
+    requires { ⌜ at + majorDigits ≤ length (now line) ⌝ }
 {
     let mut bytes = [0u8; Name::MAJOR];
     let mut i: usize = 0;
     while i < Name::MAJOR {
         let b = hex::byte(line, at + 2 * i);
-        if 255 < b {
+        if hex::NONE <= b {
             return Major { good: false, bytes };
         }
         bytes[i] = b as u8;
@@ -61,7 +63,7 @@ fn read_minor(line: &[u8], at: usize, count: usize, most: usize) -> Minor
     let mut i: usize = 0;
     while i < count {
         let b = hex::byte(line, at + 2 * i);
-        if 255 < b {
+        if hex::NONE <= b {
             return Minor { good: false, bytes };
         }
         if i < kept {
@@ -95,7 +97,7 @@ fn slash(line: &[u8], from: usize, end: usize) -> usize
 
 // The length after the slash, or that of the bytes given.
 fn length_of(line: &[u8], given: usize, slash: usize, end: usize) -> Length
-    requires { ⌜ (given ≤ 300) × (slash ≤ end) × (end ≤ length (now line)) ⌝ }
+    requires { ⌜ (given ≤ highestLength) × (slash ≤ end) × (end ≤ length (now line)) ⌝ }
 {
     if slash == end {
         return Length {
@@ -139,7 +141,7 @@ pub(crate) fn read(line: &[u8], at: usize) -> Named {
     if end <= at {
         return none();
     }
-    if end - at < 17 {
+    if end - at <= MAJOR_DIGITS {
         return none();
     }
     let major = read_major(line, at);
@@ -147,10 +149,10 @@ pub(crate) fn read(line: &[u8], at: usize) -> Named {
     if !major.good {
         return none();
     }
-    if line[at + 16] != b'.' {
+    if line[at + MAJOR_DIGITS] != b'.' {
         return none();
     }
-    minor_of(line, at + 17, end, bytes)
+    minor_of(line, at + MAJOR_DIGITS + 1, end, bytes)
 }
 
 // The name with this major part, whose minor part is from..end.
@@ -159,7 +161,7 @@ fn minor_of(line: &[u8], from: usize, end: usize, major: [u8; Name::MAJOR]) -> N
 {
     let slash = slash(line, from, end);
     let digits = slash - from;
-    if MOST_DIGITS < digits {
+    if MOST_GIVEN < digits {
         return none();
     }
     if digits % 2 != 0 {
@@ -182,12 +184,12 @@ fn minor_of(line: &[u8], from: usize, end: usize, major: [u8; Name::MAJOR]) -> N
     }
 }
 
-// The last word of a line, as a major part: 16 digits.
+// The last word of a line, as a major part.
 pub(crate) fn major_word(line: &[u8], at: usize) -> Major {
     if line.len() < at {
         return no_major();
     }
-    if line.len() - at != 16 {
+    if line.len() - at != MAJOR_DIGITS {
         return no_major();
     }
     read_major(line, at)
@@ -200,12 +202,12 @@ fn no_major() -> Major {
     }
 }
 
-// The last word of a line, as a whole minor part: 88 digits.
+// The last word of a line, as a whole minor part.
 pub(crate) fn minor_word(line: &[u8], at: usize) -> Minor {
     if line.len() < at {
         return no_minor();
     }
-    if line.len() - at != 88 {
+    if line.len() - at != MINOR_DIGITS {
         return no_minor();
     }
     read_minor(line, at, Name::LONGEST, Name::LONGEST)

@@ -1,4 +1,8 @@
 // Decimal numbers of a line.
+use crate::raw::WIDEST_BYTE;
+use crate::raw::WIDEST_HALF;
+use crate::sizes::HIGHEST_NUMBER;
+use crate::sizes::MOST_DIGITS;
 use crate::word;
 ghost use Prim.Native.Nat.{_≤_};
 
@@ -8,10 +12,6 @@ pub(crate) struct Number {
     pub(crate) value: u32,
     pub(crate) next: usize,
 }
-
-const MOST_DIGITS: usize = 10;
-
-const HIGHEST: u64 = 4294967295;
 
 pub(crate) fn none() -> Number {
     Number {
@@ -51,7 +51,7 @@ pub(crate) fn read(line: &[u8], at: usize) -> Number {
             return none();
         }
         value = value * 10 + d;
-        if HIGHEST < value {
+        if HIGHEST_NUMBER < value {
             return none();
         }
         i += 1;
@@ -65,10 +65,10 @@ pub(crate) fn read(line: &[u8], at: usize) -> Number {
 
 // The number, or the highest that a byte holds: no task, ECB or subpool has it.
 pub(crate) fn byte(n: u32) -> u8 {
-    if n < 255 { n as u8 } else { 255 }
+    if n < WIDEST_BYTE { n as u8 } else { u8::MAX }
 }
 
 // The number, or the highest that two bytes hold, which is above every range.
 pub(crate) fn half(n: u32) -> u16 {
-    if n < 65535 { n as u16 } else { 65535 }
+    if n < WIDEST_HALF { n as u16 } else { u16::MAX }
 }

@@ -13,6 +13,7 @@ use kinds::MaybeEcb;
 use kinds::Request;
 use kinds::TaskNumber;
 ghost use Prim.Native.Nat.{_≤_};
+ghost use Rattle.jobs.specs.Sizes.{mostFields};
 
 // An ECB or `-`. Where it is neither, `good` is false and the rest says nothing.
 struct Attached {
@@ -43,7 +44,7 @@ fn of_numbers(line: &[u8], at: usize, key: u64) -> Form {
 
 // How many numbers stand after CALLER.
 fn count_of(key: u64) -> usize
-    ensures { λ r. ⌜ r ≤ 3 ⌝ }
+    ensures { λ r. ⌜ r ≤ mostFields ⌝ }
 {
     match key {
         keys::POST => 2,

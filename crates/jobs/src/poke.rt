@@ -35,7 +35,8 @@ pub(crate) enum AreaField {
     Owner,
 }
 
-// `at` is the place in its table: that of task n is n - 1. A major or a minor part is no number, and is poked by itself.
+// `at` is the place in its table: that of task n is n - 1. A
+// major or a minor part is no number, and is poked by itself.
 pub(crate) enum Poke {
     Step {
         field: StepField,

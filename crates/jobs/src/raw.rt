@@ -1,9 +1,9 @@
 // Raw fields: the widest numbers that the tables keep, and what a flag or bytes count as.
 pub(crate) const WIDEST_FLAG: u32 = 1;
 
-pub(crate) const WIDEST_BYTE: u32 = 255;
+pub(crate) const WIDEST_BYTE: u32 = u8::MAX as u32;
 
-pub(crate) const WIDEST_HALF: u32 = 65535;
+pub(crate) const WIDEST_HALF: u32 = u16::MAX as u32;
 
 pub(crate) fn flag(b: bool) -> u32 {
     if b { 1 } else { 0 }

@@ -1,20 +1,23 @@
 // What is written for a line.
 use crate::listing;
+use crate::sizes::BLOCK;
+use crate::sizes::MOST_CODES;
 use crate::text;
 use crate::turn::Said;
 ghost use Prim.Native.Nat.{_≤_};
 ghost use Rattle.jobs.specs.Places.{Kept};
+ghost use Rattle.jobs.specs.Sizes.{mostCodes};
 
 // The answer to line `number` of the script, behind what is in the block; the codes area is `length` bytes of `codes`.
 pub(crate) fn say(
     said: Said,
-    codes: [u8; 64],
+    codes: [u8; MOST_CODES],
     length: usize,
     number: u64,
-    out: &mut [u8; text::BLOCK],
+    out: &mut [u8; BLOCK],
     at: usize,
 ) -> usize
-    requires { ⌜ length ≤ 64 ⌝ }
+    requires { ⌜ length ≤ mostCodes ⌝ }
     ensures { λ r. ⌜ Kept at r ⌝ }
 {
     match said {
@@ -32,7 +35,7 @@ pub(crate) fn say(
     }
 }
 
-fn mark(sign: &[u8], number: u64, out: &mut [u8; text::BLOCK], at: usize) -> usize
+fn mark(sign: &[u8], number: u64, out: &mut [u8; BLOCK], at: usize) -> usize
     ensures { λ r. ⌜ Kept at r ⌝ }
 {
     let mut digits = [0u8; 20];

@@ -3,6 +3,8 @@ use crate::form;
 use crate::input;
 use crate::listing;
 use crate::saying;
+use crate::sizes::BLOCK;
+use crate::sizes::HIGHEST_LINE;
 use crate::text;
 use crate::turn;
 use services::Tables;
@@ -11,8 +13,8 @@ use services::Tables;
 // promised of it. Before the first `fresh` the tables are those of a step over with code 0, which a fresh start with
 // dispatching above limit gives back.
 pub fn run() -> bool {
-    let mut block = [0u8; input::BLOCK];
-    let mut out = [0u8; text::BLOCK];
+    let mut block = [0u8; BLOCK];
+    let mut out = [0u8; BLOCK];
     let start = Tables::fresh(0, 1);
     let mut tables = start.tables;
     let mut next: usize = 0;
@@ -20,7 +22,7 @@ pub fn run() -> bool {
     let mut at: usize = 0;
     let mut number: u64 = 0;
     let mut ended = false;
-    while number < u64::MAX {
+    while number < HIGHEST_LINE {
         let s = input::line(&mut block, next, end);
         if s.over {
             ended = !s.failed;
@@ -42,7 +44,7 @@ pub fn run() -> bool {
         if t.dumps {
             at = listing::dump(tables, &mut out, at);
         }
-        if text::BLOCK < at {
+        if BLOCK < at {
             break;
         }
     }

@@ -1,12 +1,14 @@
-// Bytes to be written, kept in a block until it is full. Each function takes the place where the block's bytes end and
-// answers the new one. A place past the block says that a write has failed: it stays so, and the bytes put there are
-// dropped.
+// Bytes to be written, kept in a block until it is full. Each function takes the
+// place where the block's bytes end and answers the new one. A place past the block
+// says that a write has failed: it stays so, and the bytes put there are dropped.
 use crate::failure;
+use crate::hex;
+use crate::sizes::BLOCK;
+use crate::sizes::MOST_DIGITS;
 ghost use mathlib.Core.Path.{_≡_};
 ghost use Prim.Native.Nat.{_+_, _<_};
 ghost use Rattle.jobs.specs.Places.{Emptied, Kept};
-
-pub(crate) const BLOCK: usize = 65536;
+ghost use Rattle.jobs.specs.Sizes.{blockSize};
 
 const LOST: usize = BLOCK + 1;
 
@@ -33,7 +35,7 @@ fn write_front(bytes: &mut [u8], n: usize) -> bool {
 }
 
 pub(crate) fn put_byte(out: &mut [u8; BLOCK], at: usize, byte: u8) -> usize
-    ensures { λ r. ⌜ (at < 65536 → r ≡ at + 1) ⌝ }
+    ensures { λ r. ⌜ (at < blockSize → r ≡ at + 1) ⌝ }
     ensures { λ r. ⌜ Kept at r ⌝ }
 {
     if at < BLOCK {
@@ -67,8 +69,8 @@ pub(crate) fn put_number(out: &mut [u8; BLOCK], at: usize, n: u32) -> usize
     if n < 10 {
         return put_byte(out, at, b'0' + n as u8);
     }
-    let mut digits = [0u8; 10];
-    let mut first: usize = 10;
+    let mut digits = [0u8; MOST_DIGITS];
+    let mut first = MOST_DIGITS;
     let mut rest = n;
     while 0 < rest {
         first -= 1;
@@ -82,15 +84,15 @@ fn hex_digit(n: u8) -> u8 {
     if n < 10 {
         return b'0' + n;
     }
-    b'a' + n % 16 - 10
+    b'a' + n % hex::BASE - 10
 }
 
 // Two lower case digits.
 pub(crate) fn put_hex(out: &mut [u8; BLOCK], at: usize, byte: u8) -> usize
     ensures { λ r. ⌜ Kept at r ⌝ }
 {
-    let k = put_byte(out, at, hex_digit(byte / 16));
-    put_byte(out, k, hex_digit(byte % 16))
+    let k = put_byte(out, at, hex_digit(byte / hex::BASE));
+    put_byte(out, k, hex_digit(byte % hex::BASE))
 }
 
 pub(crate) fn put_bytes_hex(out: &mut [u8; BLOCK], at: usize, bytes: &[u8]) -> usize

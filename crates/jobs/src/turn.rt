@@ -8,12 +8,14 @@ use crate::outcome::Poked;
 use crate::poke_form;
 use crate::poke_form::PokeForm;
 use crate::poking;
+use crate::sizes::MOST_CODES;
 use kinds::EcbList;
 use kinds::NameList;
 use kinds::Request;
 use services::Answer;
 use services::Tables;
 ghost use Prim.Native.Nat.{_≤_};
+ghost use Rattle.jobs.specs.Sizes.{mostCodes};
 
 // What is to be written for a line.
 pub(crate) enum Said {
@@ -24,20 +26,18 @@ pub(crate) enum Said {
     Answer { number: u16, besides: u32 },
 }
 
-// The tables as the line leaves them, whether they are to be written out, and the codes area, which is `length` bytes of `codes`.
+// The tables as the line leaves them, whether they are to be written
+// out, and the codes area, which is `length` bytes of `codes`.
 pub(crate) struct Turn {
     pub(crate) tables: Tables,
     pub(crate) dumps: bool,
     pub(crate) said: Said,
-    pub(crate) codes: [u8; 64],
+    pub(crate) codes: [u8; MOST_CODES],
     pub(crate) length: usize,
 }
 
-// A line that asks for a longer one is not readable.
-const MOST_CODES: u32 = 64;
-
 pub(crate) fn taken(t: Tables, line: &[u8]) -> Turn
-    ensures { λ r. ⌜ r .length ≤ 64 ⌝ }
+    ensures { λ r. ⌜ r .length ≤ mostCodes ⌝ }
 {
     match form::read(line) {
         Form::Unreadable => still(t, Said::Unreadable),
@@ -57,19 +57,19 @@ pub(crate) fn taken(t: Tables, line: &[u8]) -> Turn
 
 // The tables stay.
 fn still(t: Tables, said: Said) -> Turn
-    ensures { λ r. ⌜ r .length ≤ 64 ⌝ }
+    ensures { λ r. ⌜ r .length ≤ mostCodes ⌝ }
 {
     Turn {
         tables: t,
         dumps: false,
         said,
-        codes: [UNWRITTEN; 64],
+        codes: [UNWRITTEN; MOST_CODES],
         length: 0,
     }
 }
 
 fn dumped(t: Tables) -> Turn
-    ensures { λ r. ⌜ r .length ≤ 64 ⌝ }
+    ensures { λ r. ⌜ r .length ≤ mostCodes ⌝ }
 {
     let mut k = still(t, Said::Nothing);
     k.dumps = true;
@@ -77,15 +77,15 @@ fn dumped(t: Tables) -> Turn
 }
 
 fn fresh(limit: u16, dispatching: u16) -> Turn
-    ensures { λ r. ⌜ r .length ≤ 64 ⌝ }
+    ensures { λ r. ⌜ r .length ≤ mostCodes ⌝ }
 {
     let a = Tables::fresh(limit, dispatching);
-    answered(a, [UNWRITTEN; 64], 0)
+    answered(a, [UNWRITTEN; MOST_CODES], 0)
 }
 
-fn answered(a: Answer, codes: [u8; 64], length: usize) -> Turn
-    requires { ⌜ length ≤ 64 ⌝ }
-    ensures { λ r. ⌜ r .length ≤ 64 ⌝ }
+fn answered(a: Answer, codes: [u8; MOST_CODES], length: usize) -> Turn
+    requires { ⌜ length ≤ mostCodes ⌝ }
+    ensures { λ r. ⌜ r .length ≤ mostCodes ⌝ }
 {
     let tables = a.tables;
     let reply = a.reply;
@@ -104,19 +104,19 @@ fn answered(a: Answer, codes: [u8; 64], length: usize) -> Turn
 
 // The request, with a codes area of `length` bytes.
 fn served(t: Tables, request: Request, names: NameList, ecbs: EcbList, length: usize) -> Turn
-    requires { ⌜ length ≤ 64 ⌝ }
-    ensures { λ r. ⌜ r .length ≤ 64 ⌝ }
+    requires { ⌜ length ≤ mostCodes ⌝ }
+    ensures { λ r. ⌜ r .length ≤ mostCodes ⌝ }
 {
-    let mut codes = [UNWRITTEN; 64];
+    let mut codes = [UNWRITTEN; MOST_CODES];
     let a = t.serve(request, names, ecbs, &mut codes[..length]);
     answered(a, codes, length)
 }
 
 // ENQ or DEQ, with the names from `at` on.
 fn with_names(t: Tables, line: &[u8], at: usize, marks: bool, request: Request, codes: u32) -> Turn
-    ensures { λ r. ⌜ r .length ≤ 64 ⌝ }
+    ensures { λ r. ⌜ r .length ≤ mostCodes ⌝ }
 {
-    if MOST_CODES < codes {
+    if (MOST_CODES as u32) < codes {
         return still(t, Said::Unreadable);
     }
     let names = beside::read_names(line, at, marks);
@@ -129,7 +129,7 @@ fn with_names(t: Tables, line: &[u8], at: usize, marks: bool, request: Request, 
 
 // WAIT, with the ECBs from `at` on.
 fn with_ecbs(t: Tables, line: &[u8], at: usize, request: Request) -> Turn
-    ensures { λ r. ⌜ r .length ≤ 64 ⌝ }
+    ensures { λ r. ⌜ r .length ≤ mostCodes ⌝ }
 {
     let ecbs = beside::read_ecbs(line, at);
     if !ecbs.good {
@@ -140,7 +140,7 @@ fn with_ecbs(t: Tables, line: &[u8], at: usize, request: Request) -> Turn
 }
 
 fn poke(t: Tables, line: &[u8], at: usize) -> Turn
-    ensures { λ r. ⌜ r .length ≤ 64 ⌝ }
+    ensures { λ r. ⌜ r .length ≤ mostCodes ⌝ }
 {
     match poke_form::read(line, at) {
         PokeForm::Unreadable => still(t, Said::Unreadable),
@@ -151,7 +151,7 @@ fn poke(t: Tables, line: &[u8], at: usize) -> Turn
 }
 
 fn major(t: Tables, line: &[u8], at: usize, from: usize) -> Turn
-    ensures { λ r. ⌜ r .length ≤ 64 ⌝ }
+    ensures { λ r. ⌜ r .length ≤ mostCodes ⌝ }
 {
     let m = name::major_word(line, from);
     if !m.good {
@@ -162,7 +162,7 @@ fn major(t: Tables, line: &[u8], at: usize, from: usize) -> Turn
 }
 
 fn minor(t: Tables, line: &[u8], at: usize, from: usize) -> Turn
-    ensures { λ r. ⌜ r .length ≤ 64 ⌝ }
+    ensures { λ r. ⌜ r .length ≤ mostCodes ⌝ }
 {
     let m = name::minor_word(line, from);
     if !m.good {
@@ -174,7 +174,7 @@ fn minor(t: Tables, line: &[u8], at: usize, from: usize) -> Turn
 
 // What a poke leaves.
 fn left(k: Poked) -> Turn
-    ensures { λ r. ⌜ r .length ≤ 64 ⌝ }
+    ensures { λ r. ⌜ r .length ≤ mostCodes ⌝ }
 {
     let tables = k.tables;
     if !k.held {

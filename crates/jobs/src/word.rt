@@ -1,4 +1,5 @@
-// Words of a line, one space between. A word is named by the place of its first byte; a place past the line's end has no word.
+// Words of a line, one space between. A word is named by the place
+// of its first byte; a place past the line's end has no word.
 ghost use Prim.Native.Nat.{_≤_};
 ghost use lib.ListN.{length};
 
@@ -29,7 +30,8 @@ pub(crate) fn none_at(line: &[u8], at: usize) -> bool {
     line.len() < at
 }
 
-// The number that the word's bytes make, the first counting most; 0 where it is too long, or has a zero byte, which would not count.
+// The number that the word's bytes make, the first counting most; 0
+// where it is too long, or has a zero byte, which would not count.
 pub(crate) fn key(line: &[u8], at: usize) -> u64 {
     let mut key: u64 = 0;
     let mut i = at;

@@ -1,4 +1,4 @@
--- The marks of those in a resource wait, and waking by a mark. Assumes nothing.
+-- The marks of those in a resource wait, and waking by a mark.
 use Prim.Native.Nat.{ℕ}
 use mathlib.Core.Bool.{Bool}
 use mathlib.Core.List.{List}

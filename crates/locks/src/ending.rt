@@ -4,12 +4,12 @@ use queue::Queue;
 ghost use mathlib.Core.Path.{_≡_};
 ghost use Rattle.lists.specs.Lists.{keep};
 ghost use Rattle.rules.specs.Ending.{entryStays};
-ghost use Rattle.queue.specs.Queues.{live, stored, Packed};
+ghost use Rattle.queue.specs.Queues.{entriesIn, storedEntries, PackedEntries};
 
 // The queue without the entries of tasks that are not live. What stays is stored here: a call would copy the queue.
 pub fn sweep(q: Queue, f: Family) -> Queue
-    requires { ⌜ Packed q ⌝ }
-    ensures { λ r. ⌜ r ≡ stored (keep (entryStays (f .places)) (live q)) ⌝ }
+    requires { ⌜ PackedEntries q ⌝ }
+    ensures { λ r. ⌜ r ≡ storedEntries (keep (entryStays (f .places)) (entriesIn q)) ⌝ }
 {
     let n = q.count;
     let mut r = queue::empty();

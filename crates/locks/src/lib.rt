@@ -12,12 +12,12 @@ ghost use Rattle.lists.specs.Lists.{alike};
 ghost use Rattle.kinds.specs.Limits.{mostEntries};
 ghost use Rattle.kinds.specs.Tasks.{inResourceWait};
 ghost use Rattle.rules.specs.SoundQueue.{entriesLive, waitsGood};
-ghost use Rattle.queue.specs.Queues.{live};
+ghost use Rattle.queue.specs.Queues.{entriesIn};
 
 // Each entry is of a live task.
 pub fn entries_live(q: Queue, f: Family) -> bool
     requires { ⌜ q .count ≤ mostEntries ⌝ }
-    ensures { λ r. ⌜ r ≡ entriesLive (f .places) (live q) ⌝ }
+    ensures { λ r. ⌜ r ≡ entriesLive (f .places) (entriesIn q) ⌝ }
 {
     let n = q.count;
     let mut i = 0;
@@ -46,7 +46,7 @@ fn wait_good(x: Task, lacks: bool) -> bool
 // A task is in a resource wait exactly when an entry of its lacks control.
 pub fn waits_good(q: Queue, f: Family) -> bool
     requires { ⌜ q .count ≤ mostEntries ⌝ }
-    ensures { λ r. ⌜ r ≡ waitsGood (live q) (f .places) ⌝ }
+    ensures { λ r. ⌜ r ≡ waitsGood (entriesIn q) (f .places) ⌝ }
 {
     let all = queue::all_marks();
     let m = queue::lacking(q, all);

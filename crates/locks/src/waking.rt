@@ -9,7 +9,7 @@ ghost use mathlib.Core.Path.{_≡_};
 ghost use Prim.Native.Nat.{_≤_};
 ghost use Rattle.kinds.specs.Limits.{mostEntries};
 ghost use Rattle.laws.specs.Waking.{wakeBy};
-ghost use Rattle.queue.specs.Queues.{live};
+ghost use Rattle.queue.specs.Queues.{entriesIn};
 ghost use Rattle.family.specs.Families.{familyOf};
 ghost use Rattle.locks.specs.Waiting.{waitMarks, wakeIf};
 
@@ -46,7 +46,7 @@ fn woken(x: Task, lacks: bool) -> Task
 // Whoever is in a resource wait and lacks nothing is ready. Only the entries of those who wait are looked at.
 pub fn wake(q: Queue, f: Family) -> Family
     requires { ⌜ q .count ≤ mostEntries ⌝ }
-    ensures { λ r. ⌜ r ≡ familyOf (wakeBy (live q) (f .places)) ⌝ }
+    ensures { λ r. ⌜ r ≡ familyOf (wakeBy (entriesIn q) (f .places)) ⌝ }
 {
     let among = waiting(f);
     let m = queue::lacking(q, among);

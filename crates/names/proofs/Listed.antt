@@ -1,4 +1,4 @@
--- The names beside a request, as the loops over their array find them. Assumes nothing.
+-- The names beside a request, as the loops over their array find them.
 use mathlib.Core.Path.{_≡_, sym, ap, _∙_}
 use mathlib.Core.Bool.{true}
 use mathlib.Core.List.{map, map-map}
@@ -22,12 +22,17 @@ use Rattle.names.specs.Named.{askOf, wantedName, namesIn}
 use Rattle.names.proofs.Shown.{shown-length}
 
 pub listed : (l : NameList) → namesOf (namesIn l) ≡ take (l .count) (map wantedName (l .names))
-listed l = sym (take-map nameOf (l .count) (map askOf (l .names))) ∙ ap (take (l .count)) (map-map nameOf askOf (l .names))
+listed l =
+    sym (take-map nameOf (l .count) (map askOf (l .names))) ∙ ap (take (l .count)) (map-map nameOf askOf (l .names))
+
+-- what is in range is at most the highest
+at-most : (lowest highest n : ℕ) → between lowest highest n ≡ true → n ≤ highest
+unfolding between
+at-most lowest highest n h = leb-true n highest (chain-not (ltb n lowest) (leb n highest) h .1)
 
 -- a good count
 pub count-few : (n : ℕ) → countGood n ≡ true → n ≤ longestList
-unfolding between
-count-few n h = leb-true n longestList (chain-not (ltb n 1) (leb n longestList) h .1)
+count-few n h = at-most 1 longestList n h
 
 -- what is known of a good list
 pub good-count : (l : Names) → namesGood l ≡ true → l .count ≤ longestList
@@ -40,19 +45,19 @@ good-legal l h = chain-and (every legal (namesOf l)) _ (chain-and (countGood (l 
 
 -- a legal name's minor part is within its array
 pub legal-short : (n : Resource) → legal n ≡ true → length (n .minor) ≤ longestMinor
-unfolding legal between
-legal-short n h =
-    leb-true (length (n .minor)) longestMinor
-    (chain-not (ltb (length (n .minor)) 1) (leb (length (n .minor)) longestMinor) (both (eqb (length (n .major)) majorBytes) _ h .1) .1)
+unfolding legal
+legal-short n h = at-most 1 longestMinor _ (both (eqb (length (n .major)) majorBytes) _ h .1)
 
-pub name-short : (l : NameList) (i : ℕ) (d : Wanted) → i < l .count → l .count ≤ length (l .names) → every legal (namesOf (namesIn l)) ≡ true
-    → getD (l .names) i d .name .length ≤ longestMinor
+pub name-short : (l : NameList) (i : ℕ) (d : Wanted) → i < l .count → l .count ≤ length (l .names)
+    → every legal (namesOf (namesIn l)) ≡ true → getD (l .names) i d .name .length ≤ longestMinor
 name-short l i d h k e =
-    let few : l .count ≤ length (map wantedName (l .names)) = rw (length-map (l .names) wantedName) k in
-    let s : legal (getD (take (l .count) (map wantedName (l .names))) i (wantedName d)) ≡ true =
-    every-at legal (take (l .count) (map wantedName (l .names))) i (wantedName d) (ap (every legal) (sym (listed l)) ∙ e)
-    (rw (length-take-le (l .count) (map wantedName (l .names)) few) h) in
-    let g : getD (take (l .count) (map wantedName (l .names))) i (wantedName d) ≡ wantedName (getD (l .names) i d) =
-    getD-take (l .count) (map wantedName (l .names)) i (wantedName d) h ∙ List·getD-map wantedName (l .names) i d in
-    let m : length (wantedName (getD (l .names) i d) .minor) ≤ longestMinor = legal-short (wantedName (getD (l .names) i d)) (ap legal (sym g) ∙ s) in
-    omega (arith, shown-length (getD (l .names) i d .name .length) (getD (l .names) i d .name .minor))
+    let ns = map wantedName (l .names) in
+    let w = getD (l .names) i d in
+    let few : l .count ≤ length ns = rw (length-map (l .names) wantedName) k in
+    let s : legal (getD (take (l .count) ns) i (wantedName d)) ≡ true =
+    every-at legal (take (l .count) ns) i (wantedName d) (ap (every legal) (sym (listed l)) ∙ e)
+    (rw (length-take-le (l .count) ns few) h) in
+    let g : getD (take (l .count) ns) i (wantedName d) ≡ wantedName w =
+    getD-take (l .count) ns i (wantedName d) h ∙ List·getD-map wantedName (l .names) i d in
+    let m : length (wantedName w .minor) ≤ longestMinor = legal-short (wantedName w) (ap legal (sym g) ∙ s) in
+    omega (arith, shown-length (w .name .length) (w .name .minor))

@@ -1,4 +1,4 @@
--- Laws of the bytes that are shown, and of the comparison of two names. Assumes nothing.
+-- Laws of the bytes that are shown, and of the comparison of two names.
 use mathlib.Core.Path.{_≡_, refl, sym, ap, _∙_}
 use mathlib.Core.Bool.{Bool, true, false, _&&_, and-false}
 use mathlib.Core.List.{List, [], _∷_, _++_, append-assoc}
@@ -31,6 +31,10 @@ pub shown-front : (l r : List ℕ) → shown (length l) (l ++ r) ≡ l
 unfolding shown
 shown-front l r = rw append-assoc (take-at l (r ++ replicate (length l) 0) (length l) refl)
 
+-- as many as are used are there
+pub used-within : (l : List ℕ) (u n : ℕ) → length l ≡ longestMinor → u ≡ min n longestMinor → u ≤ length l
+used-within l u n h e = omega arith
+
 same-self : (l : List ℕ) → sameBytes l l ≡ true
 same-self [] = refl
 same-self (x ∷ l) = rw (eq-eqb x x refl) (same-self l)
@@ -54,16 +58,18 @@ differ a b h =
     ∙ and-false (sameBytes (a .major) (b .major)))
 
 -- the same, where the lengths are one: only the bytes that are there are compared
-pub minors : (a b : Name) (k : ℕ) → a .length ≡ b .length
-    → length (a .minor) ≡ longestMinor → length (b .minor) ≡ longestMinor → k ≡ min (a .length) longestMinor
-    → sameName (resourceOf a) (resourceOf b) ≡ (sameBytes (a .major) (b .major) && sameBytes (take k (a .minor)) (take k (b .minor)))
+pub minors : (a b : Name) (k : ℕ) → a .length ≡ b .length → length (a .minor) ≡ longestMinor
+    → length (b .minor) ≡ longestMinor → k ≡ min (a .length) longestMinor
+    → sameName (resourceOf a) (resourceOf b)
+    ≡ (sameBytes (a .major) (b .major) && sameBytes (take k (a .minor)) (take k (b .minor)))
 unfolding shown
 minors a b k e u v w =
     ap (λ (t : Bool). sameBytes (a .major) (b .major) && t)
     (sym (ap (λ (j : ℕ). sameBytes (take j (a .minor)) (take j (b .minor))) (w ∙ ap (min (a .length)) (sym u))
     ∙ same-front (a .length) (a .minor) (b .minor) (replicate (a .length) 0) (u ∙ sym v)
-    ∙ ap (λ (n : ℕ). sameBytes (take (a .length) (a .minor ++ replicate (a .length) 0)) (take n (b .minor ++ replicate n 0))) e))
+    ∙ ap (λ (n : ℕ). sameBytes (shown (a .length) (a .minor)) (take n (b .minor ++ replicate n 0))) e))
 
-pub legal-is : (n : Name) (r : Bool) → length (n .major) ≡ majorBytes → r ≡ minorGood (n .length) → r ≡ legal (resourceOf n)
+pub legal-is : (n : Name) (r : Bool) → length (n .major) ≡ majorBytes → r ≡ minorGood (n .length)
+    → r ≡ legal (resourceOf n)
 unfolding legal
-legal-is n r h e = rw (eq-eqb (length (n .major)) majorBytes h) (e ∙ ap minorGood (sym (shown-length (n .length) (n .minor))))
+legal-is n r h e = rw (eq-eqb _ _ h) (e ∙ ap minorGood (sym (shown-length (n .length) (n .minor))))

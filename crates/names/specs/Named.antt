@@ -1,4 +1,4 @@
--- The name that a name's struct shows, and the names beside a request. Assumes nothing.
+-- The name that a name's struct shows, and the names beside a request.
 use Prim.Native.Nat.{ℕ}
 use mathlib.Core.List.{List, _++_, map}
 use lib.ListN.{length, take, replicate}

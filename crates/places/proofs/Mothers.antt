@@ -1,4 +1,4 @@
--- The rule on the mother of task n, whose place is x, by the tests that the code makes. Assumes nothing.
+-- The rule on the mother of task n, whose place is x, by the tests that the code makes.
 use mathlib.Core.Path.{_≡_, sym}
 use mathlib.Core.Bool.{Bool, true, false, _&&_}
 use mathlib.Core.List.{List}
@@ -20,7 +20,7 @@ module _ (ts : List Task) (n : ℕ) (x : Task) where
   job-step u e = rw (u, e)
 
   -- l and b are what the two tests answered
-  pub other-task : (l b : Bool) → isFree (x .condition) ≡ false → eqb n jobStepTask ≡ false → l ≡ live ts (x .mother .0) → b ≡ below ts jobStepTask n
-      → (l && b) ≡ motherGood ts n x
+  pub other-task : (l b : Bool) → isFree (x .condition) ≡ false → eqb n jobStepTask ≡ false
+      → l ≡ live ts (x .mother .0) → b ≡ below ts jobStepTask n → (l && b) ≡ motherGood ts n x
   unfolding motherGood
   other-task l b u e p q = rw (p, q) (sym (rw (u, e)))

@@ -1,4 +1,4 @@
--- What the rules of sound tables ask of each place by itself. Assumes nothing.
+-- What the rules of sound tables ask of each place by itself.
 use mathlib.Core.Bool.{Bool, not, _&&_, _||_}
 use lib.Dec.{leb}
 use Rattle.kinds.specs.Ranges.{priorityGood}

@@ -7,7 +7,8 @@ use kinds::TaskNumber;
 ghost use mathlib.Core.Path.{_≡_};
 ghost use Rattle.lists.specs.Lists.{every};
 ghost use Rattle.rules.specs.Attach.{maybeGood};
-ghost use Rattle.rules.specs.SoundTasks.{hasEcb, tasksFit, jobStepGood, motherGood, mothersGood, prioritiesGood, taskEcbsGood, endedGood, endedTasksGood, zeroTask, freePlacesGood};
+ghost use Rattle.rules.specs.SoundTasks.{hasEcb, tasksFit, jobStepGood, motherGood, mothersGood, prioritiesGood};
+ghost use Rattle.rules.specs.SoundTasks.{taskEcbsGood, endedGood, endedTasksGood, zeroTask, freePlacesGood};
 ghost use Rattle.places.specs.Rows.{inOrder, usedOrZero};
 
 fn has_ecb(e: MaybeEcb) -> bool

@@ -1,4 +1,4 @@
--- Marks on tasks, for all task numbers at once, and the marks of those that lack control. Assumes nothing.
+-- Marks on tasks, for all task numbers at once, and the marks of those that lack control.
 use mathlib.Core.Path.{_≡_, refl, sym, ap, _∙_}
 use mathlib.Core.Bool.{Bool, true, false, not, _&&_, _||_}
 use mathlib.Core.List.{List, map}
@@ -77,7 +77,8 @@ marked-next test n m b h e v = record {
     one : (t : ℕ) → t < n + 1 → (so : Bool) → eqb t n ≡ so → getD (set (m .tasks) n b) t false ≡ test t
     one t k true q =
         let i : t ≡ n = eqb-true t n q in
-        ap (λ (j : ℕ). getD (set (m .tasks) n b) j false) i ∙ getD-set-same (m .tasks) n b false (omega (arith, v .long)) ∙ e ∙ ap test (sym i)
+        ap (λ (j : ℕ). getD (set (m .tasks) n b) j false) i
+        ∙ getD-set-same (m .tasks) n b false (omega (arith, v .long)) ∙ e ∙ ap test (sym i)
     one t k false q =
         let i : t ≡ n → ⊥ = eqb-false t n q in
         getD-set-other (m .tasks) n t b false i ∙ v .each t (omega arith)

@@ -1,4 +1,4 @@
--- The queue's struct, the list of entries that it stands for, and the struct that keeps a list. Assumes nothing.
+-- The queue's struct, the list of entries that it stands for, and the struct that keeps a list.
 use mathlib.Core.Path.{_≡_}
 use mathlib.Core.Bool.{Bool, false, not, _&&_}
 use mathlib.Core.List.{List, map}
@@ -32,15 +32,15 @@ abbrev pub rowsOf : List Slot → Queue
 rowsOf l = record { slots = padded mostEntries zeroSlot l; count = length l }
 
 -- the list that a queue stands for, and the queue that keeps a list
-abbrev pub live : Queue → List Entry
-live q = take (q .count) (map entryOf (q .slots))
+abbrev pub entriesIn : Queue → List Entry
+entriesIn q = take (q .count) (map entryOf (q .slots))
 
-abbrev pub stored : List Entry → Queue
-stored l = rowsOf (map slotOf l)
+abbrev pub storedEntries : List Entry → Queue
+storedEntries l = rowsOf (map slotOf l)
 
 -- the queue keeps its list: nothing else stands in it
-pub record Packed (q : Queue) : Type 0 where
-  pub form : q ≡ stored (live q)
+pub record PackedEntries (q : Queue) : Type 0 where
+  pub form : q ≡ storedEntries (entriesIn q)
   pub room : q .count ≤ mostEntries
 
 -- the test of it: "unused places and fields are zero"
@@ -60,5 +60,5 @@ allFine q = every isFine (take (q .count) (q .slots))
 unfoldable pub restZero : Queue → Bool
 restZero q = eqb (length (q .slots)) mostEntries && every isZero (drop (q .count) (q .slots))
 
-unfoldable pub packedb : Queue → Bool
-packedb q = pick (ltb mostEntries (q .count)) false (allFine q && restZero q)
+unfoldable pub packedEntries : Queue → Bool
+packedEntries q = pick (ltb mostEntries (q .count)) false (allFine q && restZero q)

@@ -16,7 +16,8 @@ ghost use Rattle.lists.specs.Lists.{sameBytes};
 ghost use Rattle.kinds.specs.Limits.{mostEntries, longestMinor, majorBytes};
 ghost use Rattle.rules.specs.Rings.{bars as barsOf};
 ghost use Rattle.rules.specs.SoundQueue.{sameRequest, entriesOnce, entryNamesGood, queueFits};
-ghost use Rattle.queue.specs.Queues.{entryOf, stored, live, isFine, isZero, allFine, restZero, packedb};
+ghost use Rattle.queue.specs.Queues.{entryOf, storedEntries, entriesIn, isFine, isZero, allFine, restZero};
+ghost use Rattle.queue.specs.Queues.{packedEntries};
 ghost use Rattle.queue.specs.Marking.{marksAmong};
 
 pub struct Queue {
@@ -26,7 +27,7 @@ pub struct Queue {
 
 // The queue with no entry.
 pub fn empty() -> Queue
-    ensures { λ r. ⌜ r ≡ stored [] ⌝ }
+    ensures { λ r. ⌜ r ≡ storedEntries [] ⌝ }
 {
     let n = Name {
         major: [0u8; Name::MAJOR],
@@ -44,7 +45,8 @@ pub fn empty() -> Queue
     }
 }
 
-// The bytes after a minor part are zero. This loop and the next two have no exit, so that the compiler takes many bytes at once.
+// The bytes after a minor part are zero.
+// This loop and the next two have no exit, so that the compiler takes many bytes at once.
 fn is_fine(s: Slot) -> bool
     ensures { λ r. ⌜ r ≡ isFine s ⌝ }
 {
@@ -140,7 +142,7 @@ fn rest_zero(q: Queue) -> bool
 
 // The queue keeps a list of entries, and nothing else stands in it.
 pub fn packed(q: Queue) -> bool
-    ensures { λ r. ⌜ r ≡ packedb q ⌝ }
+    ensures { λ r. ⌜ r ≡ packedEntries q ⌝ }
 {
     if Slot::PLACES < q.count {
         return false;
@@ -152,7 +154,7 @@ pub fn packed(q: Queue) -> bool
 
 // The array bounds the list, whatever the count.
 pub fn queue_fits(q: Queue) -> bool
-    ensures { λ r. ⌜ r ≡ queueFits (live q) ⌝ }
+    ensures { λ r. ⌜ r ≡ queueFits (entriesIn q) ⌝ }
 {
     true // by the array's length
 }
@@ -184,7 +186,7 @@ fn same_request(a: Slot, b: Slot) -> bool
 // No task has two entries for one name.
 pub fn entries_once(q: Queue) -> bool
     requires { ⌜ q .count ≤ mostEntries ⌝ }
-    ensures { λ r. ⌜ r ≡ entriesOnce (live q) ⌝ }
+    ensures { λ r. ⌜ r ≡ entriesOnce (entriesIn q) ⌝ }
 {
     let n = q.count;
     let mut i = 0;
@@ -205,7 +207,7 @@ pub fn entries_once(q: Queue) -> bool
 
 pub fn entry_names_good(q: Queue) -> bool
     requires { ⌜ q .count ≤ mostEntries ⌝ }
-    ensures { λ r. ⌜ r ≡ entryNamesGood (live q) ⌝ }
+    ensures { λ r. ⌜ r ≡ entryNamesGood (entriesIn q) ⌝ }
 {
     let n = q.count;
     let mut i = 0;
@@ -220,11 +222,11 @@ pub fn entry_names_good(q: Queue) -> bool
     true
 }
 
-// Which of the tasks that are marked lack control: each of their entries is tested behind those before it, until one bars it.
-// Whoever is found to lack control is not looked at again.
+// Which of the tasks that are marked lack control: each of their entries is tested behind those before it, until one
+// bars it. Whoever is found to lack control is not looked at again.
 pub fn lacking(q: Queue, among: Marks) -> Marks
     requires { ⌜ q .count ≤ mostEntries ⌝ }
-    ensures { λ r. ⌜ r ≡ marksAmong among (live q) ⌝ }
+    ensures { λ r. ⌜ r ≡ marksAmong among (entriesIn q) ⌝ }
 {
     let n = q.count;
     let mut found = no_marks();

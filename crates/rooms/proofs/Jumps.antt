@@ -1,19 +1,25 @@
--- An area in the way stays in the way up to its bar, and the search may go on there. Assumes nothing.
-use mathlib.Core.Path.{_≡_, refl, sym, ap, subst, _∙_}
+-- An area in the way stays in the way up to its bar, and the search may go on there.
+use mathlib.Core.Path.{_≡_, refl, sym, ap, _∙_}
 use mathlib.Core.Bool.{Bool, true, false, _&&_, _||_, and-false}
 use mathlib.Core.List.{List}
 use Prim.Native.Nat.{ℕ, _+_, _-_, _*_, _/_, _≤_, _<_}
 use native.Mathlib.Omega.{arith}
 use lib.Dec.{leb}
+use lib.ListN.{take}
 use borrow.Author.Tests.{leb-true, leb-false, lt-leb}
 use Rattle.lists.specs.Pick.{pick}
-use Rattle.lists.specs.Lists.{every}
 use Rattle.lists.specs.Bools.{or-left, or-right}
-use Rattle.kinds.specs.Limits.{region, page}
+use Rattle.kinds.specs.Limits.{region, page, doubleword}
 use Rattle.kinds.specs.declared.areas.Area.{Area}
-use Rattle.rules.specs.Storage.{startOf, endOf, pastPage, firstPage, oneHolder, bytesApart, pagesApart, apart, permitted, placedAt, lowestFrom, rounded}
+use Rattle.rules.specs.Storage.{startOf, pastEnd, pastPage, firstPage, oneHolder, bytesApart, pagesApart, apart}
+use Rattle.rules.specs.Storage.{permitted, placedAt, lowestFrom, rounded}
 use Rattle.rooms.specs.Bars.{barOf, nextAt}
-use Rattle.rooms.proofs.Trials.{lowest-over}
+use Rattle.rooms.proofs.Trials.{lowest-over, triesFrom, Trying, Testing}
+
+-- two ranges that meet, a byte's or a page's: neither ends before the other begins
+meet : (a b c d : ℕ) → (leb a b || leb c d) ≡ false → (b < a) × (d < c)
+meet a b c d e =
+    (leb-false a b (or-left (leb a b) (leb c d) e), leb-false c d (or-right (leb a b) (leb c d) e))
 
 bytes-of : (b p : Bool) → (b && (true || p)) ≡ false → b ≡ false
 bytes-of true p e = e
@@ -25,83 +31,86 @@ pages-of false p f e = f e
 
 -- ONE AREA x, and the area w wanted at s and further up at u
 module _ (w x : Area) where
-  bytes-way : (s u : ℕ) → s ≤ u → u < endOf x → bytesApart (placedAt w s) x ≡ false → bytesApart (placedAt w u) x ≡ false
-  unfolding bytesApart
-  bytes-way s u h k e =
-      let p : startOf x < s + w .size = leb-false (s + w .size) (startOf x) (or-left (leb (s + w .size) (startOf x)) (leb (endOf x) s) e) in
-      rw (lt-leb (u + w .size) (startOf x) (omega arith), lt-leb (endOf x) u k)
+  -- what they have in common at s: a byte where they are of one holder, else a page
+  abbrev Shared : Bool → ℕ → Type 0
+  Shared true s = (startOf x < s + w .size) × (s < pastEnd x)
+  Shared false s = (firstPage x < pastPage (placedAt w s)) × (s / page < pastPage x)
 
-  pages-way : (s u : ℕ) → s ≤ u → u < pastPage x * page → pagesApart (placedAt w s) x ≡ false → pagesApart (placedAt w u) x ≡ false
+  abbrev bytes : ℕ → Bool
+  bytes s = bytesApart (placedAt w s) x
+
+  abbrev pages : ℕ → Bool
+  pages s = pagesApart (placedAt w s) x
+
+  bytes-shared : (s : ℕ) → bytes s ≡ false → Shared true s
+  unfolding bytesApart
+  bytes-shared s e = meet (s + w .size) (startOf x) (pastEnd x) s e
+
+  bytes-met : (s : ℕ) → Shared true s → bytes s ≡ false
+  unfolding bytesApart
+  bytes-met s h = rw (lt-leb _ _ (h .0), lt-leb _ _ (h .1))
+
+  pages-shared : (s : ℕ) → pages s ≡ false → Shared false s
   unfolding pagesApart
-  pages-way s u h k e =
-      let p : firstPage x < pastPage (placedAt w s) = leb-false (pastPage (placedAt w s)) (firstPage x) (or-left (leb (pastPage (placedAt w s)) (firstPage x)) (leb (pastPage x) (s / page)) e) in
-      rw (lt-leb (pastPage (placedAt w u)) (firstPage x) (omega arith), lt-leb (pastPage x) (u / page) (omega arith))
+  pages-shared s e = meet (pastPage (placedAt w s)) (firstPage x) (pastPage x) (s / page) e
+
+  pages-met : (s : ℕ) → Shared false s → pages s ≡ false
+  unfolding pagesApart
+  pages-met s h = rw (lt-leb _ _ (h .0), lt-leb _ _ (h .1))
 
   -- a byte in common is in a page in common
-  page-of-byte : (s : ℕ) → bytesApart (placedAt w s) x ≡ false → pagesApart (placedAt w s) x ≡ false
-  unfolding bytesApart pagesApart
-  page-of-byte s e =
-      let p : startOf x < s + w .size = leb-false (s + w .size) (startOf x) (or-left (leb (s + w .size) (startOf x)) (leb (endOf x) s) e) in
-      let q : s < endOf x = leb-false (endOf x) s (or-right (leb (s + w .size) (startOf x)) (leb (endOf x) s) e) in
-      rw (lt-leb (pastPage (placedAt w s)) (firstPage x) (omega arith), lt-leb (pastPage x) (s / page) (omega arith))
+  page-of-byte : (s : ℕ) → bytes s ≡ false → pages s ≡ false
+  page-of-byte s e = let h = bytes-shared s e in pages-met s (omega arith, omega arith)
 
-  pub stays : (s u : ℕ) → s ≤ u → u < barOf w x → apart (placedAt w s) x ≡ false → apart (placedAt w u) x ≡ false
+  -- the bar lies above, and x stands in the way up to it
+  in-way : (s : ℕ) → apart (placedAt w s) x ≡ false
+      → (s < barOf w x) × ((u : ℕ) → s ≤ u → u < barOf w x → apart (placedAt w u) x ≡ false)
   unfolding apart oneHolder barOf pick
-  stays s u h k e = one (oneHolder w x) k e
+  in-way s e = one (oneHolder w x) e
     where
-      one : (o : Bool) → u < pick o (endOf x) (pastPage x * page) → (bytesApart (placedAt w s) x && (o || pagesApart (placedAt w s) x)) ≡ false
-          → (bytesApart (placedAt w u) x && (o || pagesApart (placedAt w u) x)) ≡ false
-      one true m f = rw (bytes-way s u h m (bytes-of (bytesApart (placedAt w s) x) (pagesApart (placedAt w s) x) f))
-      one false m f =
-          let p = pages-of (bytesApart (placedAt w s) x) (pagesApart (placedAt w s) x) (page-of-byte s) f in
-          rw (pages-way s u h m p) (and-false (bytesApart (placedAt w u) x))
-
-  -- the bar lies above
-  pub above : (s : ℕ) → apart (placedAt w s) x ≡ false → s < barOf w x
-  unfolding apart oneHolder barOf pick bytesApart pagesApart
-  above s e = one (oneHolder w x) e
-    where
-      one : (o : Bool) → (bytesApart (placedAt w s) x && (o || pagesApart (placedAt w s) x)) ≡ false → s < pick o (endOf x) (pastPage x * page)
-      one true f = leb-false (endOf x) s (or-right (leb (s + w .size) (startOf x)) (leb (endOf x) s) (bytes-of (bytesApart (placedAt w s) x) (pagesApart (placedAt w s) x) f))
+      one : (o : Bool) → (bytes s && (o || pages s)) ≡ false
+          → (s < pick o (pastEnd x) (pastPage x * page))
+          × ((u : ℕ) → s ≤ u → u < pick o (pastEnd x) (pastPage x * page) → (bytes u && (o || pages u)) ≡ false)
+      one true f =
+          let h = bytes-shared s (bytes-of (bytes s) (pages s) f) in (h .1, λ u k m. rw (bytes-met u (omega arith, m)))
       one false f =
-          let p = pages-of (bytesApart (placedAt w s) x) (pagesApart (placedAt w s) x) (page-of-byte s) f in
-          let q : s / page < pastPage x = leb-false (pastPage x) (s / page) (or-right (leb (pastPage (placedAt w s)) (firstPage x)) (leb (pastPage x) (s / page)) p) in
-          omega arith
+          let h = pages-shared s (pages-of (bytes s) (pages s) (page-of-byte s) f) in
+          (omega arith, λ u k m. rw (pages-met u (omega arith, omega arith)) (and-false (bytes u)))
 
--- WHERE THE SEARCH GOES ON: at a multiple of 8 in the region that passes no try from the bar on, and above any try below the bar
-pub record Onward (b t : ℕ) : Type 0 where
-  pub whole : 8 * (t / 8) ≡ t
-  pub inside : t ≤ region
-  pub near : t < b + 8
-  pub further : (s : ℕ) → s < region → s < b → s < t
+-- WHERE THE SEARCH GOES ON: at a multiple of 8 that passes no try from the bar on, and above any try below the bar
+record Onward (b t : ℕ) : Type 0 where
+  whole : doubleword * (t / doubleword) ≡ t
+  inside : t ≤ region
+  near : t < b + doubleword
+  further : (s : ℕ) → s < region → s < b → s < t
 
-pub onward : (b : ℕ) → Onward b (nextAt b)
+onward : (b t : ℕ) → t ≡ nextAt b → Onward b t
 unfolding nextAt rounded pick
-onward b = one (leb region b) refl
+onward b t e = one (leb region b) refl e
   where
-    one : (o : Bool) → leb region b ≡ o → Onward b (pick o region ((b + (8 - 1)) / 8 * 8))
-    one true e =
-        let h : region ≤ b = leb-true region b e in
-        record { whole = refl; inside = omega arith; near = omega arith; further = λ s k m. k }
-    one false e =
-        let h : b < region = leb-false region b e in
-        record { whole = omega arith; inside = omega arith; near = omega arith; further = λ s k m. omega arith }
+    one : (o : Bool) → leb region b ≡ o → t ≡ pick o region ((b + (doubleword - 1)) / doubleword * doubleword)
+        → Onward b t
+    one true k q =
+        let h : region ≤ b = leb-true region b k in
+        record { whole = omega arith; inside = omega arith; near = omega arith; further = λ s i m. omega arith }
+    one false k q =
+        let h : b < region = leb-false region b k in
+        record { whole = omega arith; inside = omega arith; near = omega arith; further = λ s i m. omega arith }
 
--- THE JUMP, with x one of the areas of l
-module _ (l : List Area) (w x : Area) (held : (f : Area → Bool) → f x ≡ false → every f l ≡ false) where
-  passed : (s : ℕ) → apart (placedAt w s) x ≡ false → (u : ℕ) → s ≤ u → u < barOf w x → permitted l (placedAt w u) ≡ false
+-- THE JUMP, past an area in the way
+module _ {l : List Area} {n : ℕ} {w : Area} {s : ℕ} {a x : Area} {free : Bool} {j : ℕ}
+    (t : Testing l n w s a x free j) where
+  pub jump : free ≡ false → (b u : ℕ) → b ≡ barOf w x → u ≡ nextAt b → (s < u) × Trying l n w u
   unfolding permitted
-  passed s e u h k = rw (held (apart (placedAt w u)) (stays w x s u h k e)) (and-false (leb (u + w .size) region))
-
-  pub record Jump (s t : ℕ) : Type 0 where
-    pub whole : 8 * (t / 8) ≡ t
-    pub further : s < t
-    pub same : lowestFrom ((region - s) / 8) l w s ≡ lowestFrom ((region - t) / 8) l w t
-
-  pub jump : (s t : ℕ) → 8 * (s / 8) ≡ s → s < region → (a : Area) → a ≡ placedAt w s → apart a x ≡ false → t ≡ nextAt (barOf w x) → Jump s t
-  jump s t m k a p z q =
-      let e : apart (placedAt w s) x ≡ false = ap (λ (y : Area). apart y x) (sym p) ∙ z in
-      let o : Onward (barOf w x) t = subst (Onward (barOf w x)) (sym q) (onward (barOf w x)) in
-      let g : s < t = o .further s k (above w x s e) in
-      let r = lowest-over l w (barOf w x) t ((region - t) / 8) ((t - s) / 8) ((region - s) / 8) s (omega (arith, o .whole, o .inside)) (omega (arith, o .whole)) (o .near) (passed s e) in
-      record { whole = o .whole; further = g; same = r }
+  jump e b u p q =
+      let z = t .stopped e in
+      let g = in-way w x s (ap (λ (y : Area). apart y x) (sym (t .here)) ∙ z .0) in
+      let o = onward b u q in
+      let m : s < u = o .further s (t .inside) (omega (arith, g .0)) in
+      let d = (u - s) / doubleword in
+      let k : triesFrom s ≡ d + triesFrom u = omega (arith, o .whole, o .inside, t .trying .whole) in
+      let v : s + doubleword * d ≡ u = omega (arith, o .whole, t .trying .whole) in
+      let r = lowest-over (take n l) w (barOf w x) (triesFrom u) d s (omega (arith, o .near))
+      (λ y h i. rw (z .1 (apart (placedAt w y)) (g .1 y h i)) (and-false (leb (y + w .size) region))) in
+      let f = ap (λ (i : ℕ). lowestFrom i (take n l) w s) k ∙ r ∙ ap (lowestFrom (triesFrom u) (take n l) w) v in
+      (m, record { few = t .trying .few; full = t .trying .full; whole = o .whole; same = t .trying .same ∙ f })

@@ -9,16 +9,29 @@ use kinds::TaskNumber;
 use kinds::Verdict;
 use storage::Storage;
 ghost use mathlib.Core.Path.{_≡_};
-ghost use mathlib.Core.Bool.{true, not};
+ghost use mathlib.Core.Bool.{true};
 ghost use Prim.Native.Nat.{_≤_};
-ghost use Rattle.lists.specs.Lists.{keep};
+ghost use Rattle.lists.specs.Lists.{some};
 ghost use Rattle.kinds.specs.Limits.{mostAreas};
-ghost use Rattle.kinds.specs.Ranges.{lengthGood};
-ghost use Rattle.kinds.specs.declared.areas.Area.{Area};
-ghost use Rattle.kinds.specs.declared.replies.Reply.the-variants.{Done};
-ghost use Rattle.rules.specs.Freemain.{isNamed, freemainVerdict};
-ghost use Rattle.storage.specs.Stored.{stored, live, Packed};
-ghost use Rattle.rooms.specs.Found.{freedBy};
+ghost use Rattle.rules.specs.Freemain.{isNamed, freemainGood, freemainVerdict};
+ghost use Rattle.storage.specs.Stored.{areasIn, PackedAreas};
+ghost use Rattle.rooms.specs.Found.{leftBy, freedBy};
+
+// 101.
+fn freemain_good(address: Address, bytes: u32, subpool: u8) -> bool
+    ensures { λ r. ⌜ r ≡ freemainGood address bytes subpool ⌝ }
+{
+    address.is_good() & Area::length_good(bytes) & Area::subpool_good(subpool)
+}
+
+// One whole area of that owner is as the request names it.
+fn is_there(s: Storage, caller: TaskNumber, address: Address, bytes: u32, subpool: u8) -> bool
+    requires { ⌜ (s .count ≤ mostAreas) × (freemainGood address bytes subpool ≡ true) ⌝ }
+    ensures { λ r. ⌜ r ≡ some (isNamed caller address bytes subpool) (areasIn s) ⌝ }
+{
+    let a = crate::asked::area_at(address, bytes, subpool, caller);
+    storage::has_area(s, a)
+}
 
 fn freemain_verdict(
     s: Storage,
@@ -28,54 +41,50 @@ fn freemain_verdict(
     subpool: u8,
 ) -> Verdict
     requires { ⌜ s .count ≤ mostAreas ⌝ }
-    ensures { λ r. ⌜ r ≡ freemainVerdict (live s) caller address bytes subpool ⌝ }
+    ensures { λ r. ⌜ r ≡ freemainVerdict (areasIn s) caller address bytes subpool ⌝ }
 {
-    if !address.is_good() {
+    if !freemain_good(address, bytes, subpool) {
         return Verdict::Refuse(Refusal::OutOfRange);
     }
-    if !Area::length_good(bytes) {
-        return Verdict::Refuse(Refusal::OutOfRange);
+    if !is_there(s, caller, address, bytes, subpool) {
+        return Verdict::Fail(Fault::NoSuchArea);
     }
-    if !Area::subpool_good(subpool) {
-        return Verdict::Refuse(Refusal::OutOfRange);
-    }
-    let a = crate::asked::area_at(address, bytes, subpool, caller);
-    if storage::has_area(s, a) {
-        return Verdict::Go;
-    }
-    Verdict::Fail(Fault::NoSuchArea)
+    Verdict::Go
 }
 
-// The storage without the area named.
-fn taken(s: Storage, caller: TaskNumber, address: Address, bytes: u32, subpool: u8) -> Storage
-    requires { ⌜ Packed s × (lengthGood bytes ≡ true) ⌝ }
-    ensures { λ r. ⌜ r ≡ stored (keep (λ (a : Area). not (isNamed caller address bytes subpool a)) (live s)) ⌝ }
+// The storage without the area named, where the verdict is to go on.
+fn left(
+    verdict: Verdict,
+    s: Storage,
+    caller: TaskNumber,
+    address: Address,
+    bytes: u32,
+    subpool: u8,
+) -> Storage
+    requires { ⌜ PackedAreas s × (verdict ≡ freemainVerdict (areasIn s) caller address bytes subpool) ⌝ }
+    ensures { λ r. ⌜ r ≡ leftBy verdict (isNamed caller address bytes subpool) s ⌝ }
 {
-    let a = crate::asked::area_at(address, bytes, subpool, caller);
-    storage::without(s, a)
-}
-
-fn kept(verdict: Verdict, s: Storage) -> Stored
-    ensures { λ r. ⌜ r ≡ record { verdict = verdict; reply = Done 0; storage = s } ⌝ }
-{
-    Stored {
-        verdict,
-        reply: Reply::Done(0),
-        storage: s,
+    match verdict {
+        Verdict::Go => {
+            let a = crate::asked::area_at(address, bytes, subpool, caller);
+            storage::without(s, a)
+        }
+        Verdict::Refuse(why) => s,
+        Verdict::Fail(what) => s,
     }
 }
 
 // FREEMAIN's tests; where they go on, the area goes, and its room is room.
 pub fn freed(s: Storage, caller: TaskNumber, address: Address, bytes: u32, subpool: u8) -> Stored
-    requires { ⌜ Packed s ⌝ }
-    ensures { λ r. ⌜ r ≡ freedBy (freemainVerdict (live s) caller address bytes subpool) (isNamed caller address bytes subpool) s ⌝ }
+    requires { ⌜ PackedAreas s ⌝ }
+    ensures { λ r. ⌜ r ≡ freedBy (freemainVerdict (areasIn s) caller address bytes subpool)
+        (isNamed caller address bytes subpool) s ⌝ }
 {
-    match freemain_verdict(s, caller, address, bytes, subpool) {
-        Verdict::Go => {
-            let left = taken(s, caller, address, bytes, subpool);
-            kept(Verdict::Go, left)
-        }
-        Verdict::Refuse(why) => kept(Verdict::Refuse(why), s),
-        Verdict::Fail(what) => kept(Verdict::Fail(what), s),
+    let verdict = freemain_verdict(s, caller, address, bytes, subpool);
+    let storage = left(verdict, s, caller, address, bytes, subpool);
+    Stored {
+        verdict,
+        reply: Reply::Done,
+        storage,
     }
 }

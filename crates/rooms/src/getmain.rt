@@ -3,7 +3,7 @@ use crate::Stored;
 use kinds::Address;
 use kinds::Area;
 use kinds::Fault;
-use kinds::Place;
+use kinds::MaybeAddress;
 use kinds::Refusal;
 use kinds::Reply;
 use kinds::TaskNumber;
@@ -11,41 +11,51 @@ use kinds::Verdict;
 use storage::Storage;
 ghost use mathlib.Core.Path.{_≡_};
 ghost use mathlib.Core.Bool.{true};
-ghost use Prim.Native.Nat.{_≤_, _<_};
+ghost use Prim.Native.Nat.{_≤_};
+ghost use lib.Dec.{leb};
+ghost use lib.ListN.{length};
 ghost use Rattle.kinds.specs.Limits.{mostAreas};
-ghost use Rattle.kinds.specs.Ranges.{lengthGood};
-ghost use Rattle.rules.specs.Storage.{placedAt, insertedIn};
-ghost use Rattle.rules.specs.Getmain.{roomVerdict, wanted, getmainVerdict};
-ghost use Rattle.storage.specs.Stored.{stored, live, Packed};
-ghost use Rattle.rooms.specs.Found.{noPlace, placeFor, foundIn, gotBy};
+ghost use Rattle.rules.specs.Storage.{lowest};
+ghost use Rattle.rules.specs.Getmain.{getmainGood, isNowhere, wanted, getmainVerdict};
+ghost use Rattle.storage.specs.Stored.{areasIn, PackedAreas};
+ghost use Rattle.rooms.specs.Found.{placeFor, replyAt, putAt, gotBy};
 
 // The verdict on a request, and the place that the one search found for it.
 pub struct Found {
     pub verdict: Verdict,
-    pub place: Place,
+    pub place: MaybeAddress,
 }
 
-// Refused before any search.
-fn refusal(why: Refusal) -> Found
-    ensures { λ r. ⌜ r ≡ noPlace why ⌝ }
+// 101.
+fn getmain_good(bytes: u32, subpool: u8) -> bool
+    ensures { λ r. ⌜ r ≡ getmainGood bytes subpool ⌝ }
 {
-    Found {
-        verdict: Verdict::Refuse(why),
-        place: Place::Nowhere,
-    }
+    Area::length_good(bytes) & Area::subpool_good(subpool)
 }
 
-fn room_verdict(place: Place, conditional: bool) -> Verdict
-    ensures { λ r. ⌜ r ≡ roomVerdict place conditional ⌝ }
+// 107.
+fn is_full(s: Storage) -> bool
+    requires { ⌜ s .count ≤ mostAreas ⌝ }
+    ensures { λ r. ⌜ r ≡ leb mostAreas (length (areasIn s)) ⌝ }
+{
+    Area::PLACES <= s.count
+}
+
+// The search.
+fn lowest_for(s: Storage, caller: TaskNumber, bytes: u32, subpool: u8) -> MaybeAddress
+    requires { ⌜ (s .count ≤ mostAreas) × (getmainGood bytes subpool ≡ true) ⌝ }
+    ensures { λ r. ⌜ r ≡ lowest (areasIn s) (wanted bytes subpool (caller .0)) ⌝ }
+{
+    let want = crate::asked::area_at(Address(0), bytes, subpool, caller);
+    crate::room::lowest(s, want)
+}
+
+fn is_nowhere(place: MaybeAddress) -> bool
+    ensures { λ r. ⌜ r ≡ isNowhere place ⌝ }
 {
     match place {
-        Place::At(a) => Verdict::Go,
-        Place::Nowhere => {
-            if conditional {
-                return Verdict::Go;
-            }
-            Verdict::Fail(Fault::NoStorage)
-        }
+        MaybeAddress::At(a) => false,
+        MaybeAddress::Nowhere => true,
     }
 }
 
@@ -57,53 +67,73 @@ fn getmain_found(
     conditional: bool,
 ) -> Found
     requires { ⌜ s .count ≤ mostAreas ⌝ }
-    ensures { λ r. ⌜ r ≡ foundIn (live s) caller bytes subpool conditional ⌝ }
+    ensures { λ r. ⌜ (r .verdict ≡ getmainVerdict (areasIn s) caller bytes subpool conditional)
+        × (r .place ≡ placeFor (areasIn s) caller bytes subpool) ⌝ }
 {
-    if !Area::length_good(bytes) {
-        return refusal(Refusal::OutOfRange);
+    let mut place = MaybeAddress::Nowhere;
+    if !getmain_good(bytes, subpool) {
+        return Found {
+            verdict: Verdict::Refuse(Refusal::OutOfRange),
+            place,
+        };
     }
-    if !Area::subpool_good(subpool) {
-        return refusal(Refusal::OutOfRange);
+    if is_full(s) {
+        return Found {
+            verdict: Verdict::Refuse(Refusal::NoAreaFree),
+            place,
+        };
     }
-    if Area::PLACES <= s.count {
-        return refusal(Refusal::NoAreaFree);
+    place = lowest_for(s, caller, bytes, subpool);
+    if !conditional & is_nowhere(place) {
+        return Found {
+            verdict: Verdict::Fail(Fault::NoStorage),
+            place,
+        };
     }
-    let want = crate::asked::area_at(Address(0), bytes, subpool, caller);
-    let place = crate::room::lowest(s, want);
-    let verdict = room_verdict(place, conditional);
-    Found { verdict, place }
+    Found {
+        verdict: Verdict::Go,
+        place,
+    }
 }
 
-// The storage with the area asked for at its address.
-fn given(s: Storage, caller: TaskNumber, bytes: u32, subpool: u8, at: Address) -> Storage
-    requires { ⌜ Packed s × (s .count < mostAreas) × (lengthGood bytes ≡ true) ⌝ }
-    ensures { λ r. ⌜ r ≡ stored (insertedIn (placedAt (wanted bytes subpool (caller .0)) (at .0)) (live s)) ⌝ }
+// The address that is answered, or 4.
+fn reply_at(place: MaybeAddress) -> Reply
+    ensures { λ r. ⌜ r ≡ replyAt place ⌝ }
 {
-    let a = crate::asked::area_at(at, bytes, subpool, caller);
-    storage::insert(s, a)
+    match place {
+        MaybeAddress::At(a) => Reply::Got(a),
+        MaybeAddress::Nowhere => Reply::Four,
+    }
+}
+
+// The storage with the area asked for at the place found.
+fn put(s: Storage, caller: TaskNumber, bytes: u32, subpool: u8, place: MaybeAddress) -> Storage
+    requires { ⌜ PackedAreas s × (place ≡ placeFor (areasIn s) caller bytes subpool) ⌝ }
+    ensures { λ r. ⌜ r ≡ putAt place (wanted bytes subpool (caller .0)) s ⌝ }
+{
+    match place {
+        MaybeAddress::At(at) => {
+            let a = crate::asked::area_at(at, bytes, subpool, caller);
+            storage::insert(s, a)
+        }
+        MaybeAddress::Nowhere => s,
+    }
 }
 
 // GETMAIN's tests and its search; where there is room, the area stands at the lowest address, which is answered.
 pub fn got(s: Storage, caller: TaskNumber, bytes: u32, subpool: u8, conditional: bool) -> Stored
-    requires { ⌜ Packed s ⌝ }
-    ensures { λ r. ⌜ r ≡ gotBy (getmainVerdict (live s) caller bytes subpool conditional) (placeFor (live s) caller bytes subpool) (wanted bytes subpool (caller .0)) s ⌝ }
+    requires { ⌜ PackedAreas s ⌝ }
+    ensures { λ r. ⌜ r ≡ gotBy (getmainVerdict (areasIn s) caller bytes subpool conditional)
+        (placeFor (areasIn s) caller bytes subpool) (wanted bytes subpool (caller .0)) s ⌝ }
 {
     let found = getmain_found(s, caller, bytes, subpool, conditional);
     let verdict = found.verdict;
     let place = found.place;
-    match place {
-        Place::At(at) => {
-            let next = given(s, caller, bytes, subpool, at);
-            Stored {
-                verdict,
-                reply: Reply::Done(at.0),
-                storage: next,
-            }
-        }
-        Place::Nowhere => Stored {
-            verdict,
-            reply: Reply::Four,
-            storage: s,
-        },
+    let reply = reply_at(place);
+    let storage = put(s, caller, bytes, subpool, place);
+    Stored {
+        verdict,
+        reply,
+        storage,
     }
 }

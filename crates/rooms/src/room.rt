@@ -1,13 +1,13 @@
 // Where there is room for an area.
 use kinds::Address;
 use kinds::Area;
-use kinds::Place;
+use kinds::MaybeAddress;
 use storage::Storage;
 ghost use mathlib.Core.Path.{_≡_};
 ghost use Prim.Native.Nat.{_≤_};
 ghost use Rattle.kinds.specs.Limits.{mostAreas};
 ghost use Rattle.rules.specs.Storage.{placedAt, lowest as lowestOf};
-ghost use Rattle.storage.specs.Stored.{live};
+ghost use Rattle.storage.specs.Stored.{areasIn};
 ghost use Rattle.rooms.specs.Bars.{barOf, nextAt};
 
 // The area wanted, at an address.
@@ -49,10 +49,11 @@ fn next(bar: u64) -> u32
     (bar as u32 + (Address::DOUBLEWORD - 1)) / Address::DOUBLEWORD * Address::DOUBLEWORD
 }
 
-// The lowest multiple of 8 at which the area wanted is permitted. The areas are read here, so that no table is copied for each address tried.
-pub fn lowest(s: Storage, want: Area) -> Place
+// The lowest multiple of 8 at which the area wanted is permitted. The areas are read here, so that no table is copied
+// for each address tried.
+pub fn lowest(s: Storage, want: Area) -> MaybeAddress
     requires { ⌜ s .count ≤ mostAreas ⌝ }
-    ensures { λ r. ⌜ r ≡ lowestOf (live s) want ⌝ }
+    ensures { λ r. ⌜ r ≡ lowestOf (areasIn s) want ⌝ }
 {
     let n = s.count;
     let mut at: u32 = 0;
@@ -60,7 +61,7 @@ pub fn lowest(s: Storage, want: Area) -> Place
         let a = placed(want, Address(at));
         // What ends beyond the region here does so further up too.
         if (Address::REGION as u64) < areas::end_of(a) {
-            return Place::Nowhere;
+            return MaybeAddress::Nowhere;
         }
         let mut x = a;
         let mut free = true;
@@ -71,11 +72,11 @@ pub fn lowest(s: Storage, want: Area) -> Place
             j += 1;
         }
         if free {
-            return Place::At(Address(at));
+            return MaybeAddress::At(Address(at));
         }
         // What is not apart here is not apart below its bar.
         let up_to = bar(want, x);
         at = next(up_to);
     }
-    Place::Nowhere
+    MaybeAddress::Nowhere
 }

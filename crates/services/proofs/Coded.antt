@@ -1,4 +1,4 @@
--- How a gate, a verdict, a change and codes make the answer of a service that writes codes. Assumes nothing.
+-- How a gate, a verdict, a change and codes make the answer of a service that writes codes.
 use mathlib.Core.Path.{_≡_, refl, sym, ap, _∙_}
 use mathlib.Core.Bool.{Bool, true, false}
 use mathlib.Core.List.{List}
@@ -18,7 +18,8 @@ use Rattle.services.proofs.Glue.{sound-packed, refused-kept, gate-cases
 
 -- THE GATE
 
-module _ (t : Tables) (c : TaskNumber) (area : List ℕ) (v : Step → List ℕ → Verdict) (o : Step → List ℕ → Served Step) where
+module _ (t : Tables) (c : TaskNumber) (area : List ℕ) (v : Step → List ℕ → Verdict)
+    (o : Step → List ℕ → Served Step) where
   -- the form that every service with codes has
   abbrev servedOf : Step → List ℕ → Served Step
   servedOf s a = record {
@@ -27,11 +28,14 @@ module _ (t : Tables) (c : TaskNumber) (area : List ℕ) (v : Step → List ℕ 
   }
 
   -- an open gate: what the service's body answers
-  pub coded-open : (x : Served Tables) → Admitted t c → x ≡ servedBy (settledWith (v (stepOf t) area) (stepOf t) c area (o (stepOf t) area)) → x ≡ answeredWith t area servedOf
+  pub coded-open : (x : Served Tables) → Admitted t c
+      → x ≡ servedBy (settledWith (v (stepOf t) area) (stepOf t) c area (o (stepOf t) area))
+      → x ≡ answeredWith t area servedOf
   unfolding answeredWith pick through
   coded-open x a h = rw (a .sound, a .gate) h
 
-  shut-is : (s : Outcome Tables) (why : Refusal) (b : Bool) → soundb t ≡ b → gateAt t c ≡ Shut why → s ≡ refused why t → untouched area s ≡ answeredWith t area servedOf
+  shut-is : (s : Outcome Tables) (why : Refusal) (b : Bool) → soundb t ≡ b → gateAt t c ≡ Shut why → s ≡ refused why t
+      → untouched area s ≡ answeredWith t area servedOf
   unfolding answeredWith pick through
   shut-is s why true e h a =
       let g : gateOf (stepOf t) c ≡ Shut why = sym (gate-cases t (λ u. gateOf u c) true e) ∙ h in
@@ -41,9 +45,11 @@ module _ (t : Tables) (c : TaskNumber) (area : List ℕ) (v : Step → List ℕ 
       rw e (ap (untouched area) (a ∙ ap (λ (w : Refusal). refused w t) g))
 
   -- a gate that is shut refuses, and no code is written
-  pub coded-shut : (s : Outcome Tables) (g : Gate) (why : Refusal) → g ≡ gateAt t c → g ≡ Shut why → s ≡ refused why t → untouched area s ≡ answeredWith t area servedOf
+  pub coded-shut : (s : Outcome Tables) (g : Gate) (why : Refusal) → g ≡ gateAt t c → g ≡ Shut why → s ≡ refused why t
+      → untouched area s ≡ answeredWith t area servedOf
   coded-shut s g why e h a = shut-is s why (soundb t) refl (sym e ∙ h) a
 
 -- answer and codes together
-pub both-served : (o : Served Step) (s : Outcome Tables) (area : List ℕ) → s ≡ keptBy tablesOf (o .outcome) → area ≡ o .codes → untouched area s ≡ servedBy o
+pub both-served : (o : Served Step) (s : Outcome Tables) (area : List ℕ) → s ≡ keptBy tablesOf (o .outcome)
+    → area ≡ o .codes → untouched area s ≡ servedBy o
 both-served o s area p q = λ i. record { outcome = p i; codes = q i }

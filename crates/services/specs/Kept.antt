@@ -1,9 +1,9 @@
--- The step that tables stand for, the tables that keep a step, and what a service answers. Assumes nothing.
+-- The step that tables stand for, the tables that keep a step, and what a service answers.
 use mathlib.Core.Path.{_≡_}
-use mathlib.Core.Bool.{Bool, true, false}
+use mathlib.Core.Bool.{Bool, true}
 use Prim.Native.Nat.{ℕ}
 use Rattle.lists.specs.Pick.{pick}
-use Rattle.kinds.specs.Replies.{numberOf, besidesOf}
+use Rattle.kinds.specs.Replies.{numberOf, besidesIn}
 use Rattle.kinds.specs.declared.numbers.TaskNumber.{TaskNumber}
 use Rattle.kinds.specs.declared.replies.Refusal.the-variants.{Unsound}
 use Rattle.kinds.specs.declared.replies.Gate.{Gate}
@@ -14,71 +14,106 @@ use Rattle.kinds.specs.declared.replies.Verdict.the-variants.{Go, Refuse, Fail}
 use mathlib.Core.List.{List}
 use Rattle.rules.specs.Steps.{Step, Outcome, Served, refused, keptBy, untouched}
 use Rattle.rules.specs.Ending.{failing}
-use Rattle.rules.specs.Sound.{soundStep}
 use Rattle.rules.specs.Admission.{gateOf, openGate, settled, codesThrough}
 use Rattle.family.specs.Families.{familyOf}
 use Rattle.family.specs.declared.Family.{Family}
 use Rattle.events.specs.declared.Events.{Events}
 use Rattle.queue.specs.declared.Queue.{Queue}
-use Rattle.queue.specs.Queues.{live, stored, packedb, Packed as PackedQueue}
+use Rattle.queue.specs.Queues.{storedEntries, PackedEntries}
 use Rattle.events.specs.Blocks.{eventsOf}
-use Rattle.storage.specs.Stored.{live as liveAreas, stored as storedAreas, packedb as packedAreas, Packed as PackedAreas}
+use Rattle.storage.specs.Stored.{storedAreas, PackedAreas}
 use Rattle.storage.specs.declared.Storage.{Storage}
 use Rattle.endings.specs.declared.Whole.{Whole}
+use Rattle.soundness.specs.Tables.{stepFrom, soundTables}
 use Rattle.services.specs.declared.Tables.{Tables}
 use Rattle.services.specs.declared.Answer.{Answer}
 
 abbrev pub stepOf : Tables → Step
-stepOf t = record {
-  over = t .over;
-  code = t .code;
-  tasks = t .family .places;
-  queue = live (t .queue);
-  ecbs = t .events .ecbs;
-  areas = liveAreas (t .storage);
-}
+stepOf t = stepFrom (t .over) (t .code) (t .family) (t .queue) (t .events) (t .storage)
 
 abbrev pub tablesOf : Step → Tables
 tablesOf s = record {
   over = s .over;
   code = s .code;
   family = familyOf (s .tasks);
-  queue = stored (s .queue);
+  queue = storedEntries (s .queue);
   events = eventsOf (s .ecbs);
   storage = storedAreas (s .areas);
 }
 
 -- all of the tables as an ending takes them, and as it leaves them
 abbrev pub wholeIn : Tables → Whole
-wholeIn t = record { over = t .over; code = t .code; family = t .family; queue = t .queue; events = t .events; storage = t .storage }
+wholeIn t = record {
+  over = t .over;
+  code = t .code;
+  family = t .family;
+  queue = t .queue;
+  events = t .events;
+  storage = t .storage;
+}
 
 abbrev pub tablesIn : Whole → Tables
-tablesIn w = record { over = w .over; code = w .code; family = w .family; queue = w .queue; events = w .events; storage = w .storage }
+tablesIn w = record {
+  over = w .over;
+  code = w .code;
+  family = w .family;
+  queue = w .queue;
+  events = w .events;
+  storage = w .storage;
+}
 
 -- the tables keep their step: nothing else stands in them
 pub record Packed (t : Tables) : Type 0 where
-  pub queue : PackedQueue (t .queue)
+  pub queue : PackedEntries (t .queue)
   pub storage : PackedAreas (t .storage)
 
 -- with other tasks
 abbrev pub withFamily : Tables → Family → Tables
-withFamily t f = record { over = t .over; code = t .code; family = f; queue = t .queue; events = t .events; storage = t .storage }
+withFamily t f = record {
+  over = t .over;
+  code = t .code;
+  family = f;
+  queue = t .queue;
+  events = t .events;
+  storage = t .storage;
+}
 
 -- with another queue and other tasks
-abbrev pub withQueue : Tables → Family → Queue → Tables
-withQueue t f q = record { over = t .over; code = t .code; family = f; queue = q; events = t .events; storage = t .storage }
+abbrev pub withClaims : Tables → Family → Queue → Tables
+withClaims t f q = record {
+  over = t .over;
+  code = t .code;
+  family = f;
+  queue = q;
+  events = t .events;
+  storage = t .storage;
+}
 
 -- with other ECBs and tasks
 abbrev pub withSignals : Tables → Events → Family → Tables
-withSignals t e f = record { over = t .over; code = t .code; family = f; queue = t .queue; events = e; storage = t .storage }
+withSignals t e f = record {
+  over = t .over;
+  code = t .code;
+  family = f;
+  queue = t .queue;
+  events = e;
+  storage = t .storage;
+}
 
 -- with other areas
 abbrev pub withStorage : Tables → Storage → Tables
-withStorage t s = record { over = t .over; code = t .code; family = t .family; queue = t .queue; events = t .events; storage = s }
+withStorage t s = record {
+  over = t .over;
+  code = t .code;
+  family = t .family;
+  queue = t .queue;
+  events = t .events;
+  storage = s;
+}
 
--- what is answered, by the paper's number and value, and the tables
+-- what is answered, by the paper's number and by what goes besides, with its kind, and the tables
 abbrev pub replied : {T : Type 0} → Reply → T → Outcome T
-replied p t = record { number = numberOf p; besides = besidesOf p; tables = t }
+replied p t = record { number = numberOf p; besides = besidesIn p; tables = t }
 
 -- what an answer says
 abbrev pub said : Answer → Outcome Tables
@@ -86,7 +121,7 @@ said r = replied (r .reply) (r .tables)
 
 -- sound tables: they keep a step, and the step breaks no rule
 unfoldable pub soundb : Tables → Bool
-soundb t = pick (packedb (t .queue)) (pick (packedAreas (t .storage)) (soundStep (stepOf t)) false) false
+soundb t = soundTables (t .over) (t .code) (t .family) (t .queue) (t .events) (t .storage)
 
 -- 100, then what the rules say of the step that the tables stand for, kept in tables again
 unfoldable pub answered : Tables → (Step → Outcome Step) → Outcome Tables

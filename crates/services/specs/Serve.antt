@@ -1,4 +1,4 @@
--- What one request does to tables: the one definition of its outcome, `serviceOf`, on the step that they stand for. Assumes nothing.
+-- What one request does to tables: the one definition of its outcome, `serviceOf`, on the step that they stand for.
 use Rattle.rules.specs.Steps.{Served}
 use Rattle.rules.specs.Serve.{Asked, serviceOf}
 use Rattle.services.specs.Kept.{answeredWith}

@@ -7,16 +7,15 @@ use kinds::NameList;
 use kinds::TaskNumber;
 ghost use mathlib.Core.Path.{_≡_};
 ghost use Rattle.names.specs.Named.{namesIn};
-ghost use Rattle.rules.specs.Deq.{deqVerdict, deqOf};
-ghost use Rattle.queue.specs.Queues.{live};
-ghost use Rattle.services.specs.Kept.{Admitted, stepOf, saidWith, servedBy, answeredWith, settledWith};
-ghost use Rattle.services.specs.Coded.{deqServed};
+ghost use Rattle.rules.specs.Deq.{deqOf};
+ghost use Rattle.services.specs.Kept.{Admitted, saidWith, answeredWith};
+ghost use Rattle.services.specs.Coded.{deqIn};
 
 impl Tables {
     // DEQ of an admitted caller.
     fn deq_body(self, caller: TaskNumber, ret: DeqRet, names: NameList, codes: &mut [u8]) -> Answer
         requires { ⌜ Admitted self caller ⌝ }
-        ensures { λ r. ⌜ saidWith r (now (codes .exit)) ≡ servedBy (settledWith (deqVerdict (live (self .queue)) caller ret (namesIn names) (now (codes .entry))) (stepOf self) caller (now (codes .entry)) (deqServed (stepOf self) caller ret (namesIn names) (now (codes .entry)))) ⌝ }
+        ensures { λ r. ⌜ saidWith r (now (codes .exit)) ≡ deqIn self caller ret (namesIn names) (now (codes .entry)) ⌝ }
     {
         let q = self.queue;
         let f = self.family;
@@ -26,7 +25,8 @@ impl Tables {
 
     // DEQ: the caller's entries for the names go, with a code for each name if it asks for codes.
     pub fn deq(self, caller: TaskNumber, ret: DeqRet, names: NameList, codes: &mut [u8]) -> Answer
-        ensures { λ r. ⌜ saidWith r (now (codes .exit)) ≡ answeredWith self (now (codes .entry)) (λ s area. deqOf s caller ret (namesIn names) area) ⌝ }
+        ensures { λ r. ⌜ saidWith r (now (codes .exit))
+            ≡ answeredWith self (now (codes .entry)) (λ s area. deqOf s caller ret (namesIn names) area) ⌝ }
     {
         match self.gate(caller) {
             Gate::Shut(why) => self.refused(why),

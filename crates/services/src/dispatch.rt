@@ -2,6 +2,7 @@
 use crate::Answer;
 use crate::Tables;
 use kinds::Gate;
+use kinds::Reply;
 ghost use mathlib.Core.Path.{_≡_};
 ghost use Rattle.rules.specs.Dispatch.{dispatchOf};
 ghost use Rattle.services.specs.Kept.{said, answered};
@@ -16,7 +17,7 @@ impl Tables {
             Gate::Open => {
                 let f = self.family;
                 let n = family::choice::dispatched(f);
-                self.done(n.0 as u32)
+                self.replying(Reply::Dispatched(n))
             }
         }
     }

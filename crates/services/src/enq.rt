@@ -7,16 +7,15 @@ use kinds::Ret;
 use kinds::TaskNumber;
 ghost use mathlib.Core.Path.{_≡_};
 ghost use Rattle.names.specs.Named.{namesIn};
-ghost use Rattle.rules.specs.Enq.{enqVerdict, enqOf};
-ghost use Rattle.queue.specs.Queues.{live};
-ghost use Rattle.services.specs.Kept.{Admitted, stepOf, saidWith, servedBy, answeredWith, settledWith};
-ghost use Rattle.services.specs.Coded.{enqServed};
+ghost use Rattle.rules.specs.Enq.{enqOf};
+ghost use Rattle.services.specs.Kept.{Admitted, saidWith, answeredWith};
+ghost use Rattle.services.specs.Coded.{enqIn};
 
 impl Tables {
     // ENQ of an admitted caller.
     fn enq_body(self, caller: TaskNumber, ret: Ret, names: NameList, codes: &mut [u8]) -> Answer
         requires { ⌜ Admitted self caller ⌝ }
-        ensures { λ r. ⌜ saidWith r (now (codes .exit)) ≡ servedBy (settledWith (enqVerdict (live (self .queue)) caller ret (namesIn names) (now (codes .entry))) (stepOf self) caller (now (codes .entry)) (enqServed (stepOf self) caller ret (namesIn names) (now (codes .entry)))) ⌝ }
+        ensures { λ r. ⌜ saidWith r (now (codes .exit)) ≡ enqIn self caller ret (namesIn names) (now (codes .entry)) ⌝ }
     {
         let q = self.queue;
         let f = self.family;
@@ -26,7 +25,8 @@ impl Tables {
 
     // ENQ: the names are queued for, tested or made exclusive, with a code for each name unless it is NONE.
     pub fn enq(self, caller: TaskNumber, ret: Ret, names: NameList, codes: &mut [u8]) -> Answer
-        ensures { λ r. ⌜ saidWith r (now (codes .exit)) ≡ answeredWith self (now (codes .entry)) (λ s area. enqOf s caller ret (namesIn names) area) ⌝ }
+        ensures { λ r. ⌜ saidWith r (now (codes .exit))
+            ≡ answeredWith self (now (codes .entry)) (λ s area. enqOf s caller ret (namesIn names) area) ⌝ }
     {
         match self.gate(caller) {
             Gate::Shut(why) => self.refused(why),

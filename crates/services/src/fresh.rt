@@ -9,37 +9,36 @@ use kinds::Task;
 use kinds::TaskNumber;
 ghost use mathlib.Core.Path.{_≡_};
 ghost use Rattle.rules.specs.Steps.{keptBy};
-ghost use Rattle.rules.specs.Fresh.{begunWith, freshOf};
+ghost use Rattle.rules.specs.Fresh.{begunWith, freshGood, freshOf};
 ghost use Rattle.services.specs.Kept.{tablesOf, said};
+
+// 101: limit and dispatching priority are 0 to 255, dispatching not above limit.
+fn fresh_good(limit: u16, dispatching: u16) -> bool
+    ensures { λ r. ⌜ r ≡ freshGood limit dispatching ⌝ }
+{
+    let a = Task::priority_good(limit);
+    let b = dispatching <= limit;
+    a & b
+}
 
 impl Tables {
     // A step that runs, with its first task.
     fn begun(first: Task) -> Tables
         ensures { λ r. ⌜ r ≡ tablesOf (begunWith first) ⌝ }
     {
-        let f = family::empty();
+        let mut t = Tables::over_with(0);
+        let f = t.family;
         let g = family::with_place(f, TaskNumber(TaskNumber::LOWEST), first);
-        let q = queue::empty();
-        let e = events::empty();
-        let s = storage::empty();
-        Tables {
-            over: false,
-            code: 0,
-            family: g,
-            queue: q,
-            events: e,
-            storage: s,
-        }
+        t.over = false;
+        t.family = g;
+        t
     }
 
     // A fresh step, or 101 and a step already over with code 0.
     pub fn fresh(limit: u16, dispatching: u16) -> Answer
         ensures { λ r. ⌜ said r ≡ keptBy tablesOf (freshOf limit dispatching) ⌝ }
     {
-        if !Task::priority_good(limit) {
-            return Tables::over_with(0).refused(Refusal::OutOfRange);
-        }
-        if limit < dispatching {
+        if !fresh_good(limit, dispatching) {
             return Tables::over_with(0).refused(Refusal::OutOfRange);
         }
         let first = Task {
@@ -52,7 +51,7 @@ impl Tables {
         let t = Tables::begun(first);
         Answer {
             tables: t,
-            reply: Reply::Done(0),
+            reply: Reply::Done,
         }
     }
 }

@@ -36,7 +36,9 @@ ghost use mathlib.Core.Path.{_≡_};
 ghost use Rattle.rules.specs.Steps.{refused as refusedOf, done as doneOf, keptBy, overStep};
 ghost use Rattle.rules.specs.Ending.{failing};
 ghost use Rattle.rules.specs.Admission.{admitted};
-ghost use Rattle.services.specs.Kept.{Admitted, stepOf, tablesOf, wholeIn, tablesIn, withFamily, withQueue, withSignals, withStorage, said, replied, settledIn, soundb, gateAt, openGateAt};
+ghost use Rattle.services.specs.Kept.{Admitted, stepOf, tablesOf, wholeIn, tablesIn, withFamily, withClaims};
+ghost use Rattle.services.specs.Kept.{withSignals, withStorage, said, replied, settledIn, soundb, gateAt};
+ghost use Rattle.services.specs.Kept.{openGateAt};
 
 pub struct Tables {
     pub over: bool,
@@ -158,7 +160,7 @@ impl Tables {
 
     // The ECBs and the tasks are as a service leaves them.
     fn with_signals(self, l: Signals) -> Answer
-        ensures { λ r. ⌜ said r ≡ doneOf 0 (withSignals self (l .events) (l .family)) ⌝ }
+        ensures { λ r. ⌜ said r ≡ doneOf (withSignals self (l .events) (l .family)) ⌝ }
     {
         let e = l.events;
         let f = l.family;
@@ -167,7 +169,7 @@ impl Tables {
         next.family = f;
         Answer {
             tables: next,
-            reply: Reply::Done(0),
+            reply: Reply::Done,
         }
     }
 
@@ -185,7 +187,7 @@ impl Tables {
 
     // The queue and the tasks are as a service leaves them.
     fn with_claims(self, l: Claims, reply: Reply) -> Answer
-        ensures { λ r. ⌜ said r ≡ replied reply (withQueue self (l .family) (l .queue)) ⌝ }
+        ensures { λ r. ⌜ said r ≡ replied reply (withClaims self (l .family) (l .queue)) ⌝ }
     {
         let q = l.queue;
         let f = l.family;
@@ -210,12 +212,12 @@ impl Tables {
         }
     }
 
-    fn done(self, value: u32) -> Answer
-        ensures { λ r. ⌜ said r ≡ doneOf value self ⌝ }
+    fn replying(self, reply: Reply) -> Answer
+        ensures { λ r. ⌜ said r ≡ replied reply self ⌝ }
     {
         Answer {
             tables: self,
-            reply: Reply::Done(value),
+            reply,
         }
     }
 
@@ -233,7 +235,8 @@ impl Tables {
         }
     }
 
-    // What the verdict of an admitted caller's service comes to: only where it is to go on does the service's own answer stand.
+    // What the verdict of an admitted caller's service comes to:
+    // only where it is to go on does the service's own answer stand.
     fn settled(self, caller: TaskNumber, verdict: Verdict, next: Answer) -> Answer
         requires { ⌜ Admitted self caller ⌝ }
         ensures { λ r. ⌜ said r ≡ settledIn verdict self caller (said next) ⌝ }
@@ -248,7 +251,8 @@ impl Tables {
     // How each kind of service ends: what it made of its tables, and its verdict.
     fn signalled(self, caller: TaskNumber, k: Signalled) -> Answer
         requires { ⌜ Admitted self caller ⌝ }
-        ensures { λ r. ⌜ said r ≡ settledIn (k .verdict) self caller (doneOf 0 (withSignals self (k .tables .events) (k .tables .family))) ⌝ }
+        ensures { λ r. ⌜ said r ≡ settledIn (k .verdict) self caller
+            (doneOf (withSignals self (k .tables .events) (k .tables .family))) ⌝ }
     {
         let l = k.tables;
         let verdict = k.verdict;
@@ -258,7 +262,8 @@ impl Tables {
 
     fn stored(self, caller: TaskNumber, k: Stored) -> Answer
         requires { ⌜ Admitted self caller ⌝ }
-        ensures { λ r. ⌜ said r ≡ settledIn (k .verdict) self caller (replied (k .reply) (withStorage self (k .storage))) ⌝ }
+        ensures { λ r. ⌜ said r ≡ settledIn (k .verdict) self caller
+            (replied (k .reply) (withStorage self (k .storage))) ⌝ }
     {
         let s = k.storage;
         let reply = k.reply;
@@ -269,7 +274,8 @@ impl Tables {
 
     fn claimed(self, caller: TaskNumber, k: Claimed) -> Answer
         requires { ⌜ Admitted self caller ⌝ }
-        ensures { λ r. ⌜ said r ≡ settledIn (k .verdict) self caller (replied (k .reply) (withQueue self (k .tables .family) (k .tables .queue))) ⌝ }
+        ensures { λ r. ⌜ said r ≡ settledIn (k .verdict) self caller
+            (replied (k .reply) (withClaims self (k .tables .family) (k .tables .queue))) ⌝ }
     {
         let l = k.tables;
         let reply = k.reply;
@@ -280,7 +286,8 @@ impl Tables {
 
     fn attached(self, caller: TaskNumber, k: Attached) -> Answer
         requires { ⌜ Admitted self caller ⌝ }
-        ensures { λ r. ⌜ said r ≡ settledIn (k .verdict) self caller (replied (k .reply) (withFamily self (k .family))) ⌝ }
+        ensures { λ r. ⌜ said r ≡ settledIn (k .verdict) self caller
+            (replied (k .reply) (withFamily self (k .family))) ⌝ }
     {
         let f = k.family;
         let reply = k.reply;
@@ -291,12 +298,12 @@ impl Tables {
 
     fn left(self, caller: TaskNumber, k: Settled) -> Answer
         requires { ⌜ Admitted self caller ⌝ }
-        ensures { λ r. ⌜ said r ≡ settledIn (k .verdict) self caller (doneOf 0 (tablesIn (k .tables))) ⌝ }
+        ensures { λ r. ⌜ said r ≡ settledIn (k .verdict) self caller (doneOf (tablesIn (k .tables))) ⌝ }
     {
         let w = k.tables;
         let verdict = k.verdict;
         let t = Tables::kept_in(w);
-        let next = t.done(0);
+        let next = t.replying(Reply::Done);
         self.settled(caller, verdict, next)
     }
 }

@@ -13,7 +13,14 @@ ghost use Rattle.services.specs.Serve.{servedOf};
 impl Tables {
     // The service that the request names. Only ENQ and DEQ look at the names and the codes area, only WAIT at the ECBs.
     pub fn serve(self, request: Request, names: NameList, ecbs: EcbList, codes: &mut [u8]) -> Answer
-        ensures { λ r. ⌜ saidWith r (now (codes .exit)) ≡ servedOf self (record { request = request; names = namesIn names; ecbs = ecbsIn ecbs; area = now (codes .entry) }) ⌝ }
+        ensures { λ r. ⌜ saidWith r (now (codes .exit))
+            ≡ servedOf self (record {
+              request = request;
+              names = namesIn names;
+              ecbs = ecbsIn ecbs;
+              area = now
+                  (codes .entry);
+            }) ⌝ }
     {
         match request {
             Request::Attach {

@@ -1,4 +1,4 @@
--- What the rules say of a post, in the two tables' structs. Assumes nothing.
+-- What the rules say of a post, in the two tables' structs.
 use Rattle.rules.specs.Events as rules
 use Rattle.events.specs.Blocks.{eventsOf}
 use Rattle.family.specs.Families.{familyOf}

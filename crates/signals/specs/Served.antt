@@ -1,4 +1,4 @@
--- What WAIT, POST and CLEAR make of the ECBs and the tasks. Assumes nothing.
+-- What WAIT, POST and CLEAR make of the ECBs and the tasks.
 use mathlib.Core.List.{List}
 use Prim.Native.Nat.{ℕ, _-_}
 use lib.Dec.{leb}

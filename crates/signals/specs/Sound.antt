@@ -1,45 +1,69 @@
--- The rules on waiters as loops test them: ECB by ECB, and task by task with the tally at hand. Assumes nothing.
+-- The rules on waiters as loops test them: ECB by ECB, and task by task with the tally at hand.
 use mathlib.Core.Path.{_≡_, refl, ap, ap₂, _∙_}
 use mathlib.Core.Bool.{Bool, true, false, _&&_}
 use mathlib.Core.List.{List, [], _∷_}
 use Prim.Native.Nat.{ℕ, _+_, _-_, _≤_, _<_}
 use native.Mathlib.Omega.{arith}
-use lib.ListN.{length, getD}
+use lib.ListN.{length, getD, drop}
 use borrow.Author.Tests.{eq-eqb, ne-eqb}
 use Rattle.lists.specs.Lists.{every, everyAt, howMany}
+use Rattle.lists.specs.Every.{rest-fails, rest-goes}
+use Rattle.lists.specs.Numbered.{everyAt-fails, everyAt-goes}
+use Rattle.kinds.specs.Limits.{highestTask}
+use Rattle.kinds.specs.Ecbs.{noEcb}
 use Rattle.kinds.specs.Tasks.{noTask, inEcbWait}
 use Rattle.kinds.specs.declared.ecbs.Ecb.{Ecb}
 use Rattle.kinds.specs.declared.tasks.Task.{Task}
 use Rattle.rules.specs.Family.{conditionOf}
-use Rattle.rules.specs.SoundEcbs.{waitersGood, needGood, needsGood, waitedOnBy}
+use Rattle.rules.specs.SoundEcbs.{needGood, needsGood, waitedOnBy}
 use Rattle.laws.specs.Places.{place-past, place-at}
 use Rattle.laws.specs.Blocks.{waiterGood}
-use Rattle.events.specs.Blocks.{tallyFrom}
+use Rattle.events.specs.Blocks.{tallyFrom, tallyOf}
+use Rattle.events.specs.declared.Tally.{Tally}
 use Rattle.events.specs.Counts.{waits-at}
 
-pub waiters-each : (ts : List Task) (es : List Ecb) → every (waiterGood ts) es ≡ waitersGood ts es
-unfolding waitersGood
-waiters-each ts es = refl
+-- the waiter of the ECB at place i, and those of the ECBs behind it
+module _ (ts : List Task) (es : List Ecb) (i : ℕ) (h : i < length es) where
+  abbrev waiter : ℕ
+  waiter = getD es i noEcb .waiter .0
 
-module _ (ts : List Task) (x : Ecb) where
-  waiter-is : 0 < x .waiter .0 → waiterGood ts x ≡ inEcbWait (conditionOf ts (x .waiter .0))
-  waiter-is h = rw (ne-eqb (x .waiter .0) 0 (λ (z : x .waiter .0 ≡ 0). omega arith))
+  abbrev from : ℕ → Bool
+  from k = every (waiterGood ts) (drop k es)
 
-  pub waiter-none : x .waiter .0 ≡ 0 → waiterGood ts x ≡ true
-  waiter-none h = rw (eq-eqb (x .waiter .0) 0 h)
+  waiter-is : 0 < waiter → waiterGood ts (getD es i noEcb) ≡ inEcbWait (conditionOf ts waiter)
+  waiter-is p = rw (ne-eqb waiter 0 (λ (z : waiter ≡ 0). omega arith))
 
-  pub waiter-past : length ts < x .waiter .0 → waiterGood ts x ≡ false
-  waiter-past h = waiter-is (omega arith) ∙ ap (λ (t : Task). inEcbWait (t .condition)) (place-past ts (x .waiter .0) h)
+  found : 0 < waiter → waiterGood ts (getD es i noEcb) ≡ inEcbWait (getD ts (waiter - 1) noTask .condition)
+  found p = waiter-is p ∙ ap (λ (t : Task). inEcbWait (t .condition)) (place-at ts waiter p)
 
-  pub waiter-at : (b : Bool) → 0 < x .waiter .0 → inEcbWait (getD ts (x .waiter .0 - 1) noTask .condition) ≡ b → waiterGood ts x ≡ b
-  waiter-at b h e = waiter-is h ∙ ap (λ (t : Task). inEcbWait (t .condition)) (place-at ts (x .waiter .0) h) ∙ e
+  pub waiter-none : waiter ≡ 0 → from i ≡ from (i + 1)
+  waiter-none p = rest-goes (waiterGood ts) es i noEcb h (rw (eq-eqb waiter 0 p))
+
+  pub waiter-past : length ts < waiter → from i ≡ false
+  waiter-past p =
+      let e = ap (λ (t : Task). inEcbWait (t .condition)) (place-past ts waiter p) in
+      rest-fails (waiterGood ts) es i noEcb h (waiter-is (omega arith) ∙ e)
+
+  pub waiter-at : (b : Bool) → 0 < waiter → inEcbWait (getD ts (waiter - 1) noTask .condition) ≡ b
+      → from i ≡ (b && from (i + 1))
+  waiter-at true p e = rest-goes (waiterGood ts) es i noEcb h (found p ∙ e)
+  waiter-at false p e = rest-fails (waiterGood ts) es i noEcb h (found p ∙ e)
 
 -- the need of task n, whose ECBs are counted in t
 unfoldable pub needFrom : List ℕ → ℕ → Task → Bool
 needFrom t n x = needGood (x .condition) (getD t n 0)
 
+-- the need of the task at place i, and those of the tasks behind it
+pub need-at : (t : List ℕ) (ts : List Task) (i : ℕ) → i < length ts → (b : Bool)
+    → needGood (getD ts i noTask .condition) (getD t (i + 1) 0) ≡ b
+    → everyAt (needFrom t) (i + 1) (drop i ts) ≡ (b && everyAt (needFrom t) (i + 1 + 1) (drop (i + 1) ts))
+unfolding needFrom
+need-at t ts i h true e = everyAt-goes (needFrom t) (i + 1) i ts noTask h e
+need-at t ts i h false e = everyAt-fails (needFrom t) (i + 1) i ts noTask h e
+
 needs-counted : (k n : ℕ) (es : List Ecb) (ts : List Task) → n + length ts ≤ k
-    → everyAt (needFrom (tallyFrom k 0 es)) n ts ≡ everyAt (λ m (x : Task). needGood (x .condition) (howMany (waitedOnBy m) es)) n ts
+    → everyAt (needFrom (tallyFrom k 0 es)) n ts
+    ≡ everyAt (λ m (x : Task). needGood (x .condition) (howMany (waitedOnBy m) es)) n ts
 unfolding needFrom
 needs-counted k n es [] h = refl
 needs-counted k n es (x ∷ ts) h =
@@ -48,6 +72,8 @@ needs-counted k n es (x ∷ ts) h =
     (ap (needGood (x .condition)) (waits-at k 0 n es (omega arith) ∙ ap (λ (m : ℕ). howMany (waitedOnBy m) es) e))
     (needs-counted k (n + 1) es ts (omega arith))
 
-pub needs-from : (es : List Ecb) (ts : List Task) (t : List ℕ) → t ≡ tallyFrom 33 0 es → length ts ≡ 32 → everyAt (needFrom t) 1 ts ≡ needsGood es ts
+pub needs-from : (es : List Ecb) (ts : List Task) (t : Tally) → t ≡ tallyOf es → length ts ≡ highestTask
+    → everyAt (needFrom (t .ecbs)) 1 ts ≡ needsGood es ts
 unfolding needsGood
-needs-from es ts t e h = ap (λ (l : List ℕ). everyAt (needFrom l) 1 ts) e ∙ needs-counted 33 1 es ts (omega arith)
+needs-from es ts t e h =
+    ap (λ (x : Tally). everyAt (needFrom (x .ecbs)) 1 ts) e ∙ needs-counted (highestTask + 1) 1 es ts (omega arith)

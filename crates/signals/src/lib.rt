@@ -128,9 +128,7 @@ fn comes_to(e: Events, f: Family, w: TaskNumber, k: Condition) -> Signals
 {
     let x = family::at(f, w);
     let y = x.with_condition(k);
-    let i = (w.0 - 1) as usize;
-    let mut g = f;
-    g.places[i] = y;
+    let g = family::with_place(f, w, y);
     let d = bits_left(e, w, k);
     Signals {
         events: d,

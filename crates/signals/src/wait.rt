@@ -17,12 +17,14 @@ ghost use Rattle.events.specs.Blocks.{ecbsIn};
 ghost use Rattle.signals.specs.Posts.{signalsOf};
 ghost use Rattle.signals.specs.Served.{waitedIn, signalledBy};
 
-// With as many complete as the count, the caller goes on and nothing changes. A count that goes is at most that of the list, so it fits.
+// With as many complete as the count, the caller goes on and nothing changes.
+// A count that goes is at most that of the list, so it fits.
 fn waiting(e: Events, f: Family, caller: TaskNumber, ecbs: EcbList, count: u32) -> Signals
-    requires { ⌜ ((lowestTask ≤ caller .0) × (caller .0 ≤ highestTask)) × (waitVerdict (e .ecbs) (ecbsIn ecbs) count ≡ Go) ⌝ }
+    requires caller { ⌜ (lowestTask ≤ caller .0) × (caller .0 ≤ highestTask) ⌝ }
+    requires goes { ⌜ waitVerdict (e .ecbs) (ecbsIn ecbs) count ≡ Go ⌝ }
     ensures { λ r. ⌜ r ≡ signalsOf (waitedIn (f .places) (e .ecbs) (caller .0) (ecbsIn ecbs) count) ⌝ }
 {
-    let complete = waits::complete_of(e, ecbs);
+    let complete = ecbwaits::complete_of(e, ecbs);
     if count <= complete {
         return Signals {
             events: e,
@@ -30,7 +32,7 @@ fn waiting(e: Events, f: Family, caller: TaskNumber, ecbs: EcbList, count: u32) 
         };
     }
     let posts = (count - complete) as u8;
-    let d = waits::wait_set(e, caller, ecbs);
+    let d = ecbwaits::wait_set(e, caller, ecbs);
     let x = family::at(f, caller);
     let y = x.with_condition(Condition::EcbWait(posts));
     let g = family::with_place(f, caller, y);
@@ -43,9 +45,10 @@ fn waiting(e: Events, f: Family, caller: TaskNumber, ecbs: EcbList, count: u32) 
 // WAIT's tests; where they go on, the caller waits for as many posts as are missing.
 pub fn waited(e: Events, f: Family, caller: TaskNumber, ecbs: EcbList, count: u32) -> Signalled
     requires { ⌜ (lowestTask ≤ caller .0) × (caller .0 ≤ highestTask) ⌝ }
-    ensures { λ r. ⌜ r ≡ signalledBy (waitVerdict (e .ecbs) (ecbsIn ecbs) count) (waitedIn (f .places) (e .ecbs) (caller .0) (ecbsIn ecbs) count) e f ⌝ }
+    ensures { λ r. ⌜ r ≡ signalledBy (waitVerdict (e .ecbs) (ecbsIn ecbs) count)
+        (waitedIn (f .places) (e .ecbs) (caller .0) (ecbsIn ecbs) count) e f ⌝ }
 {
-    match waits::wait_verdict(e, ecbs, count) {
+    match ecbwaits::wait_verdict(e, ecbs, count) {
         Verdict::Go => {
             let l = waiting(e, f, caller, ecbs, count);
             Signalled {

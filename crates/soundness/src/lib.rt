@@ -5,16 +5,18 @@ use kinds::Task;
 use queue::Queue;
 use storage::Storage;
 ghost use mathlib.Core.Path.{_≡_};
+ghost use mathlib.Core.Bool.{true, false};
 ghost use Prim.Native.Nat.{_≤_};
 ghost use Rattle.lists.specs.Lists.{none};
 ghost use Rattle.kinds.specs.Limits.{mostEntries, mostAreas};
-ghost use Rattle.queue.specs.Queues.{live};
-ghost use Rattle.storage.specs.Stored.{live as liveAreas};
-ghost use Rattle.soundness.specs.Rules.{tasksGood, queueGood, eventsGood, areasGood, sizesGood, runningRules, overRules, soundTables};
+ghost use Rattle.rules.specs.Sound.{sizesGood, soundTasks, soundQueue, soundEcbs, soundAreas, overGood, runningGood};
+ghost use Rattle.queue.specs.Queues.{entriesIn};
+ghost use Rattle.storage.specs.Stored.{areasIn};
+ghost use Rattle.soundness.specs.Tables.{stepFrom, soundTables};
 
 // The rules on the task table alone.
 fn tasks_good(f: Family) -> bool
-    ensures { λ r. ⌜ r ≡ tasksGood (f .places) ⌝ }
+    ensures { λ r. ⌜ r ≡ soundTasks (f .places) ⌝ }
 {
     let a = places::job_step_good(f);
     let b = places::mothers_good(f);
@@ -28,7 +30,7 @@ fn tasks_good(f: Family) -> bool
 // The rules on entries and resource waits.
 fn queue_good(q: Queue, f: Family) -> bool
     requires { ⌜ q .count ≤ mostEntries ⌝ }
-    ensures { λ r. ⌜ r ≡ queueGood (f .places) (live q) ⌝ }
+    ensures { λ r. ⌜ r ≡ soundQueue (f .places) (entriesIn q) ⌝ }
 {
     let a = queue::queue_fits(q);
     let b = locks::entries_live(q, f);
@@ -40,7 +42,7 @@ fn queue_good(q: Queue, f: Family) -> bool
 
 // The rules on ECBs and ECB waits.
 fn ecbs_good(e: Events, f: Family) -> bool
-    ensures { λ r. ⌜ r ≡ eventsGood (f .places) (e .ecbs) ⌝ }
+    ensures { λ r. ⌜ r ≡ soundEcbs (f .places) (e .ecbs) ⌝ }
 {
     let a = signals::waiters_good(e, f);
     let b = signals::needs_good(e, f);
@@ -51,7 +53,7 @@ fn ecbs_good(e: Events, f: Family) -> bool
 // The rules on areas.
 fn areas_good(s: Storage, f: Family) -> bool
     requires { ⌜ s .count ≤ mostAreas ⌝ }
-    ensures { λ r. ⌜ r ≡ areasGood (f .places) (liveAreas s) ⌝ }
+    ensures { λ r. ⌜ r ≡ soundAreas (f .places) (areasIn s) ⌝ }
 {
     let a = storage::areas_fit(s);
     let b = storage::shapes_good(s);
@@ -72,14 +74,14 @@ fn sizes_good(f: Family, e: Events) -> bool
 
 fn no_entry(q: Queue) -> bool
     requires { ⌜ q .count ≤ mostEntries ⌝ }
-    ensures { λ r. ⌜ r ≡ none (live q) ⌝ }
+    ensures { λ r. ⌜ r ≡ none (entriesIn q) ⌝ }
 {
     q.count == 0
 }
 
 fn no_area(s: Storage) -> bool
     requires { ⌜ s .count ≤ mostAreas ⌝ }
-    ensures { λ r. ⌜ r ≡ none (liveAreas s) ⌝ }
+    ensures { λ r. ⌜ r ≡ none (areasIn s) ⌝ }
 {
     s.count == 0
 }
@@ -87,7 +89,7 @@ fn no_area(s: Storage) -> bool
 // The rules on a step that runs.
 fn running_good(code: u16, f: Family, q: Queue, e: Events, s: Storage) -> bool
     requires { ⌜ (q .count ≤ mostEntries) × (s .count ≤ mostAreas) ⌝ }
-    ensures { λ r. ⌜ r ≡ runningRules code (f .places) (live q) (e .ecbs) (liveAreas s) ⌝ }
+    ensures { λ r. ⌜ r ≡ runningGood (stepFrom false code f q e s) ⌝ }
 {
     let a = sizes_good(f, e);
     let b = tasks_good(f);
@@ -100,7 +102,7 @@ fn running_good(code: u16, f: Family, q: Queue, e: Events, s: Storage) -> bool
 // "A step that is over has empty tables."
 fn over_good(code: u16, f: Family, q: Queue, e: Events, s: Storage) -> bool
     requires { ⌜ (q .count ≤ mostEntries) × (s .count ≤ mostAreas) ⌝ }
-    ensures { λ r. ⌜ r ≡ overRules code (f .places) (live q) (e .ecbs) (liveAreas s) ⌝ }
+    ensures { λ r. ⌜ r ≡ overGood (stepFrom true code f q e s) ⌝ }
 {
     let a = sizes_good(f, e);
     let b = Task::code_good(code);
@@ -111,7 +113,8 @@ fn over_good(code: u16, f: Family, q: Queue, e: Events, s: Storage) -> bool
     a & (b & (d & (g & (h & i))))
 }
 
-// No rule of sound tables is broken. The packed tests come first: the rules speak of the lists that packed tables stand for.
+// No rule of sound tables is broken. The packed tests come first:
+// the rules speak of the lists that packed tables stand for.
 pub fn sound(over: bool, code: u16, f: Family, q: Queue, e: Events, s: Storage) -> bool
     ensures { λ r. ⌜ r ≡ soundTables over code f q e s ⌝ }
 {

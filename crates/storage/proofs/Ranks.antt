@@ -1,4 +1,4 @@
--- The place at which an area goes into a list. Assumes nothing.
+-- The place at which an area goes into a list.
 use mathlib.Core.Path.{_≡_, refl, ap, _∙_}
 use mathlib.Core.Bool.{Bool, true, false, cond}
 use mathlib.Core.List.{List, [], _∷_}
@@ -13,7 +13,8 @@ use Rattle.kinds.specs.declared.areas.Area.{Area}
 use Rattle.rules.specs.Storage.{startOf, insertedIn}
 use Rattle.storage.specs.Changes.{rankIn, insertedAt}
 
-rank-step : (t : Bool) (a b : Area) (l m : List Area) (k : ℕ) → insertedAt k a l ≡ m → insertedAt (cond t 0 (suc k)) a (b ∷ l) ≡ cond t (a ∷ b ∷ l) (b ∷ m)
+rank-step : (t : Bool) (a b : Area) (l m : List Area) (k : ℕ) → insertedAt k a l ≡ m
+    → insertedAt (cond t 0 (suc k)) a (b ∷ l) ≡ cond t (a ∷ b ∷ l) (b ∷ m)
 rank-step true a b l m k e = refl
 rank-step false a b l m k e = ap {B = List Area} (λ s. b ∷ s) e
 
@@ -21,7 +22,8 @@ rank-step false a b l m k e = ap {B = List Area} (λ s. b ∷ s) e
 pub inserted-rank : (a : Area) (l : List Area) → insertedAt (rankIn a l) a l ≡ insertedIn a l
 unfolding rankIn insertedIn
 inserted-rank a [] = refl
-inserted-rank a (b ∷ l) = rank-step (ltb (startOf a) (startOf b)) a b l (insertedIn a l) (rankIn a l) (inserted-rank a l)
+inserted-rank a (b ∷ l) =
+    rank-step (ltb (startOf a) (startOf b)) a b l (insertedIn a l) (rankIn a l) (inserted-rank a l)
 
 rank-less : (t : Bool) (k n : ℕ) → k ≤ n → cond t 0 (suc k) ≤ suc n
 rank-less true k n h = omega arith

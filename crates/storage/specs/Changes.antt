@@ -1,4 +1,4 @@
--- How a storage grows, and where an area goes. Assumes nothing.
+-- How a storage grows, and where an area goes.
 use mathlib.Core.Bool.{cond}
 use mathlib.Core.List.{List, [], _∷_, _++_}
 use Prim.Native.Nat.{ℕ, suc, _+_}

@@ -1,4 +1,4 @@
--- The storage's struct, the list of areas that it stands for, and the struct that keeps a list. Assumes nothing.
+-- The storage's struct, the list of areas that it stands for, and the struct that keeps a list.
 use mathlib.Core.Path.{_≡_}
 use mathlib.Core.Bool.{Bool, false, _&&_}
 use mathlib.Core.List.{List}
@@ -15,15 +15,15 @@ use Rattle.rules.specs.Storage.{sameArea}
 use Rattle.storage.specs.declared.Storage.{Storage}
 
 -- the list that a storage stands for, and the storage that keeps a list
-abbrev pub live : Storage → List Area
-live s = take (s .count) (s .areas)
+abbrev pub areasIn : Storage → List Area
+areasIn s = take (s .count) (s .areas)
 
-abbrev pub stored : List Area → Storage
-stored l = record { areas = padded mostAreas noArea l; count = length l }
+abbrev pub storedAreas : List Area → Storage
+storedAreas l = record { areas = padded mostAreas noArea l; count = length l }
 
 -- the storage keeps its list: nothing else stands in it
-pub record Packed (s : Storage) : Type 0 where
-  pub form : s ≡ stored (live s)
+pub record PackedAreas (s : Storage) : Type 0 where
+  pub form : s ≡ storedAreas (areasIn s)
   pub room : s .count ≤ mostAreas
 
 -- the test of it
@@ -33,5 +33,5 @@ isZero a = sameArea a noArea
 unfoldable pub restZero : Storage → Bool
 restZero s = eqb (length (s .areas)) mostAreas && every isZero (drop (s .count) (s .areas))
 
-unfoldable pub packedb : Storage → Bool
-packedb s = pick (ltb mostAreas (s .count)) false (restZero s)
+unfoldable pub packedAreas : Storage → Bool
+packedAreas s = pick (ltb mostAreas (s .count)) false (restZero s)

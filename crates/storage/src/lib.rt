@@ -10,7 +10,7 @@ ghost use Rattle.kinds.specs.Limits.{mostAreas};
 ghost use Rattle.kinds.specs.declared.areas.Area.{Area};
 ghost use Rattle.rules.specs.Storage.{sameArea, insertedIn};
 ghost use Rattle.rules.specs.SoundAreas.{areasFit, areaShapesGood, areasRise, areasApart};
-ghost use Rattle.storage.specs.Stored.{stored, live, Packed, isZero, restZero, packedb};
+ghost use Rattle.storage.specs.Stored.{storedAreas, areasIn, PackedAreas, isZero, restZero, packedAreas};
 ghost use Rattle.storage.specs.Changes.{appended, extended, rankIn, insertedAt};
 
 pub struct Storage {
@@ -20,7 +20,7 @@ pub struct Storage {
 
 // No area.
 pub fn empty() -> Storage
-    ensures { λ r. ⌜ r ≡ stored [] ⌝ }
+    ensures { λ r. ⌜ r ≡ storedAreas [] ⌝ }
 {
     let x = Area::zero();
     Storage {
@@ -54,7 +54,7 @@ fn rest_zero(s: Storage) -> bool
 
 // Nothing but its areas stands in the storage.
 pub fn packed(s: Storage) -> bool
-    ensures { λ r. ⌜ r ≡ packedb s ⌝ }
+    ensures { λ r. ⌜ r ≡ packedAreas s ⌝ }
 {
     if Area::PLACES < s.count {
         return false;
@@ -64,14 +64,14 @@ pub fn packed(s: Storage) -> bool
 
 pub fn areas_fit(s: Storage) -> bool
     requires { ⌜ s .count ≤ mostAreas ⌝ }
-    ensures { λ r. ⌜ r ≡ areasFit (live s) ⌝ }
+    ensures { λ r. ⌜ r ≡ areasFit (areasIn s) ⌝ }
 {
     s.count <= Area::PLACES
 }
 
 pub fn shapes_good(s: Storage) -> bool
     requires { ⌜ s .count ≤ mostAreas ⌝ }
-    ensures { λ r. ⌜ r ≡ areaShapesGood (live s) ⌝ }
+    ensures { λ r. ⌜ r ≡ areaShapesGood (areasIn s) ⌝ }
 {
     let n = s.count;
     let mut i = 0;
@@ -88,7 +88,7 @@ pub fn shapes_good(s: Storage) -> bool
 // Each area starts above the one before it, and so above all before it: neighbours are enough.
 pub fn areas_rise(s: Storage) -> bool
     requires { ⌜ s .count ≤ mostAreas ⌝ }
-    ensures { λ r. ⌜ r ≡ areasRise (live s) ⌝ }
+    ensures { λ r. ⌜ r ≡ areasRise (areasIn s) ⌝ }
 {
     let n = s.count;
     let mut i = 1;
@@ -106,7 +106,7 @@ pub fn areas_rise(s: Storage) -> bool
 // Each area against those behind it.
 pub fn areas_apart(s: Storage) -> bool
     requires { ⌜ s .count ≤ mostAreas ⌝ }
-    ensures { λ r. ⌜ r ≡ areasApart (live s) ⌝ }
+    ensures { λ r. ⌜ r ≡ areasApart (areasIn s) ⌝ }
 {
     let n = s.count;
     let mut i = 0;
@@ -137,7 +137,8 @@ fn append(s: Storage, a: Area) -> Storage
     p
 }
 
-// The storage r with the areas of s from place i up to place n appended. Each is stored here: a call would copy the table.
+// The storage r with the areas of s from place i up to place n appended.
+// Each is stored here: a call would copy the table.
 fn append_range(r: Storage, s: Storage, i: usize, n: usize) -> Storage
     requires { ⌜ (i ≤ n) × (n ≤ mostAreas) × (r .count + (n - i) ≤ mostAreas) ⌝ }
     ensures { λ q. ⌜ q ≡ extended r (slice i n (s .areas)) ⌝ }
@@ -157,7 +158,7 @@ fn append_range(r: Storage, s: Storage, i: usize, n: usize) -> Storage
 // How many areas stand before the first that starts above a.
 fn rank(s: Storage, a: Area) -> usize
     requires { ⌜ s .count ≤ mostAreas ⌝ }
-    ensures { λ r. ⌜ r ≡ rankIn a (live s) ⌝ }
+    ensures { λ r. ⌜ r ≡ rankIn a (areasIn s) ⌝ }
 {
     let n = s.count;
     let mut i = 0;
@@ -173,7 +174,7 @@ fn rank(s: Storage, a: Area) -> usize
 
 fn insert_at(s: Storage, at: usize, a: Area) -> Storage
     requires { ⌜ (s .count < mostAreas) × (at ≤ s .count) ⌝ }
-    ensures { λ r. ⌜ r ≡ stored (insertedAt at a (live s)) ⌝ }
+    ensures { λ r. ⌜ r ≡ storedAreas (insertedAt at a (areasIn s)) ⌝ }
 {
     let n = s.count;
     let p = append_range(empty(), s, 0, at);
@@ -183,8 +184,8 @@ fn insert_at(s: Storage, at: usize, a: Area) -> Storage
 
 // The storage with one area more, in address order.
 pub fn insert(s: Storage, a: Area) -> Storage
-    requires { ⌜ Packed s × (s .count < mostAreas) ⌝ }
-    ensures { λ r. ⌜ r ≡ stored (insertedIn a (live s)) ⌝ }
+    requires { ⌜ PackedAreas s × (s .count < mostAreas) ⌝ }
+    ensures { λ r. ⌜ r ≡ storedAreas (insertedIn a (areasIn s)) ⌝ }
 {
     let at = rank(s, a);
     insert_at(s, at, a)
@@ -193,7 +194,7 @@ pub fn insert(s: Storage, a: Area) -> Storage
 // The area stands in the storage.
 pub fn has_area(s: Storage, a: Area) -> bool
     requires { ⌜ s .count ≤ mostAreas ⌝ }
-    ensures { λ r. ⌜ r ≡ some (sameArea a) (live s) ⌝ }
+    ensures { λ r. ⌜ r ≡ some (sameArea a) (areasIn s) ⌝ }
 {
     let n = s.count;
     let mut i = 0;
@@ -209,8 +210,8 @@ pub fn has_area(s: Storage, a: Area) -> bool
 
 // The storage without the area. What stays is stored here: a call would copy the table.
 pub fn without(s: Storage, a: Area) -> Storage
-    requires { ⌜ Packed s ⌝ }
-    ensures { λ r. ⌜ r ≡ stored (keep (λ (b : Area). not (sameArea a b)) (live s)) ⌝ }
+    requires { ⌜ PackedAreas s ⌝ }
+    ensures { λ r. ⌜ r ≡ storedAreas (keep (λ (b : Area). not (sameArea a b)) (areasIn s)) ⌝ }
 {
     let n = s.count;
     let mut r = empty();

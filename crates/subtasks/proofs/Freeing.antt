@@ -1,27 +1,39 @@
--- A task and all below it end: its place first, then its subtasks. Assumes nothing.
-use mathlib.Core.Path.{_≡_, refl, sym, ap, subst, _∙_}
+-- A task and all below it end: its place first, then its subtasks.
+use mathlib.Core.Path.{_≡_, refl, sym, _∙_}
 use mathlib.Core.Logic.{_⊎_, inl, inr, ⊎-elim}
-use mathlib.Core.Bool.{true, false}
+use mathlib.Core.Bool.{Bool, true, false, not}
 use mathlib.Core.List.{List}
-use Prim.Native.Nat.{ℕ, _+_, _-_, _≤_, _<_}
+use Prim.Native.Nat.{ℕ, _-_, _≤_, _<_}
 use native.Mathlib.Omega.{arith}
 use lib.Dec.{eqb}
-use lib.ListN.{length, getD, set, length-set}
-use lib.Seq.{ext-getD, getD-set-same, getD-set-other}
-use borrow.Author.Tests.{eqb-true, eqb-false, eq-eqb, ne-eqb}
+use lib.ListN.{length, length-set}
+use borrow.Author.Tests.{eqb-true, eqb-false, eq-eqb, ne-eqb, not-true, not-false}
 use Rattle.lists.specs.Bools.{decided, never, not-so, same-test}
-use Rattle.lists.specs.Numbered.{mapAt-at, length-mapAt}
-use Rattle.lists.specs.Pick.{pick, pick-true, pick-false}
-use Rattle.kinds.specs.Limits.{highestTask}
+use Rattle.kinds.specs.Limits.{lowestTask, highestTask}
 use Rattle.kinds.specs.Tasks.{noTask}
 use Rattle.kinds.specs.declared.tasks.Task.{Task}
 use Rattle.rules.specs.Family.{place, withPlace, used, mother, below, directSubtask}
-use Rattle.rules.specs.Ending.{endAt, endTasks}
+use Rattle.rules.specs.Ending.{endTasks}
 use Rattle.laws.specs.Conditions.{place-same, place-other}
-use Rattle.laws.specs.Wiping.{wipeAt, wiped, length-wiped, gone, kept, still, by-places, wiped-none, wiped-twice}
-use Rattle.laws.specs.Chains.{only, used-same, mother-same, used-pos, used-within, usedPlaces, wiped-fewer, Chain, here, up, below-chain, chain-below, chain-goal}
+use Rattle.laws.specs.Wiping.{inUse, wiped, length-wiped, gone, kept, still, by-places, wiped-none, wiped-twice}
+use Rattle.laws.specs.Chains.{only, used-same, mother-same, used-pos, used-within, usedPlaces, wiped-fewer}
+use Rattle.laws.specs.Chains.{Chain, here, up, below-chain, chain-below, chain-goal}
+use Rattle.laws.specs.Ended.{stays, goes-last, goes-free, length-ended}
+use Rattle.family.proofs.Chains.{use-of}
 use Rattle.subtasks.specs.Under.{under}
 use Rattle.subtasks.proofs.Walks.{sub-mother, sub-make, under-chain, chain-under, unwiped}
+
+-- WHAT THE CODE READS of a place x, and whether it is in use, b
+module _ (ts : List Task) (n : ℕ) {x : Task} {b : Bool} (e : x ≡ place ts n) (u : b ≡ inUse x) where
+  pub read-free : not b ≡ true → used ts n ≡ false
+  read-free h = use-of ts n x e false (sym u ∙ not-true b h)
+
+  pub read-used : not b ≡ false → used ts n ≡ true
+  read-used h = use-of ts n x e true (sym u ∙ not-false b h)
+
+pub in-places : (ts : List Task) (n : ℕ)
+    → length ts ≡ highestTask → used ts n ≡ true → (lowestTask ≤ n) × (n ≤ highestTask)
+in-places ts n l u = (omega (arith, used-pos ts n u), omega (arith, used-within ts n u))
 
 -- NO TASK IN USE has the number: nobody is below it
 
@@ -33,14 +45,15 @@ module _ (ts : List Task) (n : ℕ) (free : used ts n ≡ false) where
   end-none = wiped-none (below ts n) ts nobody-below
 
   pub ends-none : (last : Task) → ts ≡ endTasks ts n last
-  unfolding endAt
   ends-none last =
-      ext-getD noTask ts (endTasks ts n last) (sym (length-mapAt (endAt ts n last) 1 ts))
-      (λ i b. sym (mapAt-at (endAt ts n last) 1 ts noTask i b ∙ pick-false (below ts n (1 + i)) (pick (eqb (1 + i) n) last noTask) (getD ts i noTask) (nobody-below (1 + i))))
+      by-places ts (endTasks ts n last) (sym (length-ended ts n last)) (λ m. sym (stays ts n last m (nobody-below m)))
 
 -- A TASK IN USE
 
 module _ (ts : List Task) (n : ℕ) (in-use : used ts n ≡ true) where
+  itself : only n n ≡ true
+  itself = eq-eqb n n refl
+
   low : 0 < n
   low = used-pos ts n in-use
 
@@ -54,13 +67,12 @@ module _ (ts : List Task) (n : ℕ) (in-use : used ts n ≡ true) where
         new
         ∙ by-places (withPlace ts n y) (wiped (only n) ts) (length-set ts (n - 1) y ∙ sym (length-wiped (only n) ts))
         (λ m. ⊎-elim
-        (λ h.
-        subst (λ (j : ℕ). place (withPlace ts n y) j ≡ y) (sym (eqb-true m n h)) (place-same ts n y low high) ∙ free ∙ sym (gone (only n) ts m h))
+        (λ h. rw (eqb-true m n h) (place-same ts n y low high ∙ free ∙ sym (gone (only n) ts n itself)))
         (λ h. place-other ts n y low high m (eqb-false m n h) ∙ sym (kept (only n) ts m h))
         (decided (eqb m n)))
 
     pub freed-fewer : usedPlaces us < usedPlaces ts
-    freed-fewer = subst (λ (l : List Task). usedPlaces l < usedPlaces ts) (sym freed) (wiped-fewer (only n) ts n in-use (eq-eqb n n refl))
+    freed-fewer = rw freed (wiped-fewer (only n) ts n in-use itself)
 
   abbrev rest : List Task
   rest = wiped (only n) ts
@@ -74,7 +86,7 @@ module _ (ts : List Task) (n : ℕ) (in-use : used ts n ≡ true) where
       let e = mother-same rest ts m k in
       ⊎-elim
       (λ h. here v (sub-make rest n m v (e ∙ eqb-true (mother ts m) n h)))
-      (λ h. up v (subst (λ (j : ℕ). Chain rest (directSubtask rest n) j) (sym e) (shorter (mother ts m) (eqb-false (mother ts m) n h) r)))
+      (λ h. up v (rw e (shorter (mother ts m) (eqb-false (mother ts m) n h) r)))
       (decided (eqb (mother ts m) n))
 
   -- and a chain to a direct subtask of n goes on to n
@@ -84,12 +96,12 @@ module _ (ts : List Task) (n : ℕ) (in-use : used ts n ≡ true) where
       (λ a u h.
       let k = still (only n) ts a u in
       up (used-same ts rest a k ∙ u)
-      (subst (λ (j : ℕ). Chain ts (only n) j) (sym (mother-same ts rest a k ∙ sub-mother rest n a h)) (here in-use (eq-eqb n n refl))))
+      (rw (mother-same ts rest a k ∙ sub-mother rest n a h) (here in-use itself)))
       m r
 
   module _ (l : length ts ≡ highestTask) where
     self-below : (m : ℕ) → only n m ≡ true → below ts n m ≡ true
-    self-below m h = chain-below ts n m l (here (subst (λ (j : ℕ). used ts j ≡ true) (sym (eqb-true m n h)) in-use) h)
+    self-below m h = chain-below ts n m l (here (rw (eqb-true m n h) in-use) h)
 
     then-subtasks : wiped (under rest n) rest ≡ wiped (below ts n) ts
     then-subtasks =
@@ -98,33 +110,33 @@ module _ (ts : List Task) (n : ℕ) (in-use : used ts n ≡ true) where
         (λ e. chain-below ts n m l (longer m (under-chain rest n m e)))
         (λ e. chain-under rest n m (length-wiped (only n) ts ∙ l) (shorter m (eqb-false m n h) (below-chain ts n m e))))
 
-    pub end-in : (us : List Task) (y : Task) → y ≡ noTask → us ≡ withPlace ts n y → wiped (under us n) us ≡ wiped (below ts n) ts
-    end-in us y free new = subst (λ (v : List Task). wiped (under v n) v ≡ wiped (below ts n) ts) (sym (freed us y free new)) then-subtasks
+    pub end-in : (us : List Task) (y : Task)
+        → y ≡ noTask → us ≡ withPlace ts n y → wiped (under us n) us ≡ wiped (below ts n) ts
+    end-in us y free new = rw (freed us y free new) then-subtasks
 
     -- its place becomes `last` instead
-    pub ends-in : (last : Task) → withPlace (wiped (below ts n) ts) n last ≡ endTasks ts n last
-    unfolding endAt wipeAt
+    abbrev ended : List Task
+    ended = wiped (below ts n) ts
+
+    as-long : length ended ≡ length ts
+    as-long = length-wiped (below ts n) ts
+
+    within : n ≤ length ended
+    within = omega (arith, as-long, high)
+
+    pub ends-in : (last : Task) → withPlace ended n last ≡ endTasks ts n last
     ends-in last =
-        ext-getD noTask (withPlace (wiped (below ts n) ts) n last) (endTasks ts n last)
-        (length-set (wiped (below ts n) ts) (n - 1) last ∙ length-wiped (below ts n) ts ∙ sym (length-mapAt (endAt ts n last) 1 ts))
-        (λ i b.
-        let k : length (withPlace (wiped (below ts n) ts) n last) ≡ length ts = length-set (wiped (below ts n) ts) (n - 1) last ∙ length-wiped (below ts n) ts in
-        let r : i < length ts = omega arith in
-        one i r (decided (eqb (1 + i) n)))
+        by-places (withPlace ended n last) (endTasks ts n last)
+        (length-set ended (n - 1) last ∙ as-long ∙ sym (length-ended ts n last))
+        (λ m. ⊎-elim
+        (λ h.
+        rw (eqb-true m n h) (place-same ended n last low within ∙ sym (goes-last ts n last (self-below n itself))))
+        (λ h.
+        let d = eqb-false m n h in
+        place-other ended n last low within m d ∙ elsewhere m d (decided (below ts n m)))
+        (decided (eqb m n)))
       where
-        one : (i : ℕ) → i < length ts → (eqb (1 + i) n ≡ true) ⊎ (eqb (1 + i) n ≡ false)
-            → getD (withPlace (wiped (below ts n) ts) n last) i noTask ≡ getD (endTasks ts n last) i noTask
-        one i r (inl h) =
-            let g : 1 + i ≡ n = eqb-true (1 + i) n h in
-            let e : i ≡ n - 1 = omega arith in
-            subst (λ (j : ℕ). getD (set (wiped (below ts n) ts) j last) i noTask ≡ last) e
-            (getD-set-same (wiped (below ts n) ts) i last noTask (rw (length-wiped (below ts n) ts) r))
-            ∙ sym (mapAt-at (endAt ts n last) 1 ts noTask i r
-            ∙ pick-true (below ts n (1 + i)) (pick (eqb (1 + i) n) last noTask) (getD ts i noTask) (self-below (1 + i) h)
-            ∙ pick-true (eqb (1 + i) n) last noTask h)
-        one i r (inr h) =
-            let d : 1 + i ≡ n → ⊥ = eqb-false (1 + i) n h in
-            getD-set-other (wiped (below ts n) ts) (n - 1) i last noTask (λ e. d (omega (arith, low)))
-            ∙ mapAt-at (wipeAt (below ts n)) 1 ts noTask i r
-            ∙ sym (mapAt-at (endAt ts n last) 1 ts noTask i r
-            ∙ ap (λ (y : Task). pick (below ts n (1 + i)) y (getD ts i noTask)) (pick-false (eqb (1 + i) n) last noTask h))
+        elsewhere : (m : ℕ) → (m ≡ n → ⊥) → (below ts n m ≡ true) ⊎ (below ts n m ≡ false)
+            → place ended m ≡ place (endTasks ts n last) m
+        elsewhere m d (inl b) = gone (below ts n) ts m b ∙ sym (goes-free ts n last m b d)
+        elsewhere m d (inr b) = kept (below ts n) ts m b ∙ sym (stays ts n last m b)

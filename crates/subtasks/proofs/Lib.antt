@@ -1,4 +1,3 @@
-pub mod Attaching
 pub mod NewTask
 pub mod Sums
 pub mod Walks

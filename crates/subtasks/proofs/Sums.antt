@@ -1,4 +1,4 @@
--- A `u8` and an `i16` added as `i32`: what the machine reads back from the bits at each step is the number itself. Assumes nothing.
+-- A `u8` and an `i16` added as `i32`: what the machine reads back from the bits at each step is the number itself.
 use mathlib.Core.Path.{_≡_, sym, subst, _∙_}
 use mathlib.Core.Bool.{Bool, true, false, cond}
 use Prim.Native.Nat.{ℕ, suc, _+_, _-_, _≤_}
@@ -26,7 +26,8 @@ pub read-u8 : {n : ℕ} → Fits w8 n → toZ w32 n ≡ pos n
 read-u8 {n} f = toZ-pos w32 n (omega arith)
 
 -- a number that passed both tests fits a `u8`: h is what the machine reads of the limit l
-pub within : (h z : ℤ) {l : ℕ} → Fits w8 l → h ≡ pos l → ltZ z (pos 0) ≡ false → ltZ h z ≡ false → T (nonNeg z) × Fits w8 (natAbs z)
+pub within : (h z : ℤ) {l : ℕ}
+    → Fits w8 l → h ≡ pos l → ltZ z (pos 0) ≡ false → ltZ h z ≡ false → T (nonNeg z) × Fits w8 (natAbs z)
 within h (pos n) {l} f e t u = (tt, omega (arith, ltb-false l n (subst (λ (k : ℤ). ltZ k (pos n) ≡ false) e u)))
 within h (negsuc n) f e t u = absurd (subst T t tt)
 

@@ -1,4 +1,4 @@
--- The tasks under a task: its direct subtasks and all below them. Assumes nothing.
+-- The tasks under a task: its direct subtasks and all below them.
 use Prim.Native.Nat.{ℕ}
 use mathlib.Core.Bool.{Bool}
 use mathlib.Core.List.{List}

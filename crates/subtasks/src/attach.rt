@@ -8,8 +8,9 @@ use kinds::Task;
 use kinds::TaskNumber;
 use kinds::Verdict;
 ghost use mathlib.Core.Path.{_≡_};
+ghost use lib.Dec.{eqb};
 ghost use Rattle.kinds.specs.declared.replies.Reply.the-variants.{Done};
-ghost use Rattle.rules.specs.Attach.{newLimit, newDispatching, newTask, attachVerdict};
+ghost use Rattle.rules.specs.Attach.{newLimit, newDispatching, lowestFree, attachGood, attachVerdict, newTask};
 ghost use Rattle.subtasks.specs.Attaching.{attachedBy};
 
 // What ATTACH makes of the task table, which changes only where its verdict is to go on.
@@ -30,7 +31,8 @@ fn new_limit(limit: u8, lpmod: u16) -> u8
     (wide - lpmod) as u8
 }
 
-// The mother's dispatching priority plus DPMOD, held to at least 0 and at most the new limit. The sum is made in a type that holds every sum.
+// The mother's dispatching priority plus DPMOD, held to at least 0 and at most the new limit.
+// The sum is made in a type that holds every sum.
 fn new_dispatching(dispatching: u8, dpmod: i16, limit: u8) -> u8
     ensures { λ r. ⌜ r ≡ newDispatching dispatching dpmod limit ⌝ }
 {
@@ -59,32 +61,39 @@ fn new_task(m: Task, c: TaskNumber, lpmod: u16, dpmod: i16, ecb: MaybeEcb) -> Ta
     }
 }
 
-// 101, then 106.
+// 101.
+fn attach_good(lpmod: u16, dpmod: i16, ecb: MaybeEcb) -> bool
+    ensures { λ r. ⌜ r ≡ attachGood lpmod dpmod ecb ⌝ }
+{
+    Task::priority_good(lpmod) & Task::dpmod_good(dpmod) & places::ecb_good(ecb)
+}
+
+// 106.
+fn none_free(f: Family) -> bool
+    ensures { λ r. ⌜ r ≡ eqb (lowestFree (f .places)) 0 ⌝ }
+{
+    let n = family::choice::lowest_free(f);
+    n.0 == 0
+}
+
 fn attach_verdict(f: Family, lpmod: u16, dpmod: i16, ecb: MaybeEcb) -> Verdict
     ensures { λ r. ⌜ r ≡ attachVerdict (f .places) lpmod dpmod ecb ⌝ }
 {
-    if !Task::priority_good(lpmod) {
+    if !attach_good(lpmod, dpmod, ecb) {
         return Verdict::Refuse(Refusal::OutOfRange);
     }
-    if !Task::dpmod_good(dpmod) {
-        return Verdict::Refuse(Refusal::OutOfRange);
-    }
-    if !places::ecb_good(ecb) {
-        return Verdict::Refuse(Refusal::OutOfRange);
-    }
-    let n = family::choice::lowest_free(f);
-    if n.0 == 0 {
+    if none_free(f) {
         return Verdict::Refuse(Refusal::NoTaskFree);
     }
     Verdict::Go
 }
 
 fn unchanged(verdict: Verdict, f: Family) -> Attached
-    ensures { λ r. ⌜ r ≡ record { verdict = verdict; reply = Done 0; family = f } ⌝ }
+    ensures { λ r. ⌜ r ≡ record { verdict = verdict; reply = Done; family = f } ⌝ }
 {
     Attached {
         verdict,
-        reply: Reply::Done(0),
+        reply: Reply::Done,
         family: f,
     }
 }
@@ -101,7 +110,7 @@ pub fn attach(f: Family, caller: TaskNumber, lpmod: u16, dpmod: i16, ecb: MaybeE
             let g = family::with_place(f, n, x);
             Attached {
                 verdict: Verdict::Go,
-                reply: Reply::Done(n.0 as u32),
+                reply: Reply::Attached(n),
                 family: g,
             }
         }

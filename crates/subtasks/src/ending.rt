@@ -1,5 +1,5 @@
-// The ending of tasks, on the task table alone. A task is freed before its subtasks are looked for, so that the calls come to an end
-// on any table, rings of mothers included, and go no deeper than the family does.
+// The ending of tasks, on the task table alone. A task is freed before its subtasks are looked for, so that the calls
+// come to an end on any table, rings of mothers included, and go no deeper than the family does.
 use family::Family;
 use kinds::Task;
 use kinds::TaskNumber;

@@ -1,3 +1,4 @@
+-- Each return cites the contract of the test that led to it.
 use mathlib.Core.Path.{sym, _∙_}
 use borrow.Author.Needs.{needs}
 use borrow.Author.Tests.{not-true, not-false}
@@ -15,21 +16,21 @@ one-holder-requires : tie.Need-one-holder-requires
 one-holder-requires c κs = search needs
 
 returns-2 : tie.Need-returns-2
-returns-2 c = apart-one _ _ (sym (c .before .before .before .bytes-apart .ensures) ∙ not-false _ (c .before .before .if1 .left)) (sym (c .before .one-holder .ensures) ∙ c .if2 .taken)
+returns-2 c =
+    let t = c .before .before in
+    apart-one _ _ (sym (t .before .bytes-apart .ensures) ∙ not-false _ (t .if1 .left))
+    (sym (c .before .one-holder .ensures) ∙ c .if2 .taken)
 
 pages-apart-requires : tie.Need-pages-apart-requires
 pages-apart-requires c κs = search needs
 
 returns-3 : tie.Need-returns-3
-returns-3 c = c .pages-apart .ensures ∙ apart-pages _ _ (sym (c .before .before .before .before .bytes-apart .ensures) ∙ not-false _ (c .before .before .before .if1 .left)) (sym (c .before .before .one-holder .ensures) ∙ c .before .if2 .left)
+returns-3 c =
+    let t = c .before .before .before in
+    c .pages-apart .ensures
+    ∙ apart-pages _ _ (sym (t .before .bytes-apart .ensures) ∙ not-false _ (t .if1 .left))
+    (sym (c .before .before .one-holder .ensures) ∙ c .before .if2 .left)
 
 pub apart-spec : {M : Type 1} → statement M
 apart-spec =
-    tie.close
-    (tie.spec
-    bytes-apart-requires
-    returns
-    one-holder-requires
-    returns-2
-    pages-apart-requires
-    returns-3)
+    tie.close (tie.spec bytes-apart-requires returns one-holder-requires returns-2 pages-apart-requires returns-3)

@@ -1,3 +1,4 @@
+-- Each return cites the contracts of the start and the end that are compared.
 use native.Mathlib.Omega.{arith}
 use borrow.Author.Needs.{needs}
 use Rattle.areas.proofs.Tests.{bytes-first, bytes-second}
@@ -26,11 +27,4 @@ returns-2 c =
 
 pub bytes-apart-spec : {M : Type 1} → statement M
 bytes-apart-spec =
-    tie.close
-    (tie.spec
-    end-of-requires
-    start-of-requires
-    returns
-    end-of-requires-2
-    start-of-requires-2
-    returns-2)
+    tie.close (tie.spec end-of-requires start-of-requires returns end-of-requires-2 start-of-requires-2 returns-2)

@@ -1,3 +1,4 @@
+-- Each return cites the test that led to it.
 use borrow.Author.Tests.{eq-eqb, ne-eqb}
 use Rattle.rules.specs.Storage.{oneHolder}
 use Rattle.areas.proofs.one_holder.Statement.{statement}

@@ -1,3 +1,4 @@
+-- Each return cites the contracts of the pages that are compared.
 use native.Mathlib.Omega.{arith}
 use borrow.Author.Needs.{needs}
 use Rattle.areas.proofs.Tests.{pages-first, pages-second}
@@ -27,10 +28,4 @@ returns-2 c =
 pub pages-apart-spec : {M : Type 1} → statement M
 pages-apart-spec =
     tie.close
-    (tie.spec
-    past-page-requires
-    first-page-requires
-    returns
-    past-page-requires-2
-    first-page-requires-2
-    returns-2)
+    (tie.spec past-page-requires first-page-requires returns past-page-requires-2 first-page-requires-2 returns-2)

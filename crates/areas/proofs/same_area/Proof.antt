@@ -1,3 +1,4 @@
+-- Each return cites the tests that led to it; the last, the contract of `one_holder`.
 use borrow.Author.Needs.{needs}
 use borrow.Author.Tests.{eq-eqb, ne-eqb}
 use Rattle.rules.specs.Storage.{sameArea}
@@ -17,7 +18,9 @@ one-holder-requires c κs = search needs
 
 returns-3 : tie.Need-returns-3
 unfolding sameArea
-returns-3 c = rw (eq-eqb _ _ (c .before .before .before .before .if1 .left), eq-eqb _ _ (c .before .if2 .left)) (c .one-holder .ensures)
+returns-3 c =
+    rw (eq-eqb _ _ (c .before .before .before .before .if1 .left), eq-eqb _ _ (c .before .if2 .left))
+    (c .one-holder .ensures)
 
 pub same-area-spec : {M : Type 1} → statement M
 same-area-spec = tie.close (tie.spec returns returns-2 one-holder-requires returns-3)

@@ -1,13 +1,11 @@
+-- There are two places to copy between (invariant); copies left to make fall (measure).
 use Prim.Native.Nat.{_≤_, _-_}
-use mathlib.Core.Path.{_≡_, refl, _∙_}
+use mathlib.Core.Path.{_≡_, refl}
 use native.Mathlib.Omega.{arith}
 use borrow.Author.Needs.{needs}
 use lib.ListN.{length, length-set}
 use Rattle.cost.proofs.copies.Statement.{statement}
 use Rattle.cost.proofs.copies.Tie as tie
-use Rattle.cost.proofs.copies.Reads as reads
-use Rattle.cost.proofs.copies.Lts as lts
-use Rattle.cost.proofs.full_tables.Reads as full-tables-reads
 
 abbrev Inv-loop : tie.InvT-loop
 Inv-loop n pair₀ i₀ pair i = (i ≤ n) × (length pair ≡ 2)
@@ -62,22 +60,5 @@ returns c = search needs
 
 pub copies-spec : {M : Type 1} → statement M
 copies-spec =
-    tie.close
-    (tie.spec
-    Inv-loop
-    μ-loop
-    full-tables-requires
-    loop-holds
-    cast-at
-    mul-x
-    array-copy-out-x
-    cast-x
-    sub-pair
-    mul-pair
-    array-set-from-pair
-    add-i
-    loop-less
-    loop-again
-    array-copy-out-last
-    cast-result
-    returns)
+    tie.close (tie.spec Inv-loop μ-loop full-tables-requires loop-holds cast-at mul-x array-copy-out-x cast-x sub-pair
+    mul-pair array-set-from-pair add-i loop-less loop-again array-copy-out-last cast-result returns)

@@ -1,26 +1,28 @@
+-- i is a place of the task table or its end, and it has all of its places (invariant); places left fall (measure).
 use Prim.Native.Nat.{_≤_, _-_}
-use mathlib.Core.Path.{_≡_, _∙_}
+use mathlib.Core.Path.{_≡_}
 use native.Mathlib.Omega.{arith}
 use borrow.Author.Needs.{needs}
 use lib.ListN.{length, length-set}
 use Rattle.lists.specs.Arrays.{mapped-length}
+use Rattle.kinds.specs.Limits.{highestTask}
 use Rattle.cost.proofs.full_family.Statement.{statement}
 use Rattle.cost.proofs.full_family.Tie as tie
-use Rattle.cost.proofs.full_family.Reads as reads
-use Rattle.cost.proofs.full_family.Lts as lts
-use Rattle.family.proofs.empty.Reads as empty-reads
 
 abbrev Inv-loop : tie.InvT-loop
-Inv-loop f₀ i₀ f i = (i ≤ 32) × (length (f .places) ≡ 32)
+Inv-loop f₀ i₀ f i = (i ≤ highestTask) × (length (f .places) ≡ highestTask)
 
 abbrev μ-loop : tie.MeasureT-loop
-μ-loop f₀ i₀ f i = 32 - i
+μ-loop f₀ i₀ f i = highestTask - i
 
 empty-requires : tie.Need-empty-requires Inv-loop μ-loop
 empty-requires c κs = search needs
 
 loop-holds : tie.Need-loop-holds Inv-loop μ-loop
 loop-holds c = (omega arith, search (needs, mapped-length))
+
+task-requires : tie.Need-task-requires Inv-loop μ-loop
+task-requires c κs = search needs
 
 mul-x : tie.Need-mul-x Inv-loop μ-loop
 mul-x c = omega arith
@@ -42,15 +44,5 @@ returns c = search needs
 
 pub full-family-spec : {M : Type 1} → statement M
 full-family-spec =
-    tie.close
-    (tie.spec
-    Inv-loop
-    μ-loop
-    empty-requires
-    loop-holds
-    mul-x
-    element-set-from-x
-    add-i
-    loop-less
-    loop-again
-    returns)
+    tie.close (tie.spec Inv-loop μ-loop empty-requires loop-holds task-requires mul-x element-set-from-x add-i
+    loop-less loop-again returns)

@@ -1,20 +1,19 @@
+-- i is a place of the queue or its end, and the queue has all of its places (invariant); places left fall (measure).
 use Prim.Native.Nat.{_≤_, _-_}
-use mathlib.Core.Path.{_≡_, _∙_}
+use mathlib.Core.Path.{_≡_}
 use native.Mathlib.Omega.{arith}
 use borrow.Author.Needs.{needs}
 use lib.ListN.{length, length-set}
 use Rattle.lists.specs.Arrays.{mapped-length}
+use Rattle.kinds.specs.Limits.{mostEntries}
 use Rattle.cost.proofs.full_queue.Statement.{statement}
 use Rattle.cost.proofs.full_queue.Tie as tie
-use Rattle.cost.proofs.full_queue.Reads as reads
-use Rattle.cost.proofs.full_queue.Lts as lts
-use Rattle.queue.proofs.empty.Reads as empty-reads
 
 abbrev Inv-loop : tie.InvT-loop
-Inv-loop q₀ i₀ q i = (i ≤ 128) × (length (q .slots) ≡ 128)
+Inv-loop q₀ i₀ q i = (i ≤ mostEntries) × (length (q .slots) ≡ mostEntries)
 
 abbrev μ-loop : tie.MeasureT-loop
-μ-loop q₀ i₀ q i = 128 - i
+μ-loop q₀ i₀ q i = mostEntries - i
 
 empty-requires : tie.Need-empty-requires Inv-loop μ-loop
 empty-requires c κs = search needs
@@ -28,11 +27,14 @@ cast-name c = omega arith
 element-write-name : tie.Need-element-write-name Inv-loop μ-loop
 element-write-name c = search needs
 
-add-t13 : tie.Need-add-t13 Inv-loop μ-loop
-add-t13 c = omega arith
+add-task : tie.Need-add-task Inv-loop μ-loop
+add-task c = omega arith
 
-cast-t9 : tie.Need-cast-t9 Inv-loop μ-loop
-cast-t9 c = omega arith
+cast-task : tie.Need-cast-task Inv-loop μ-loop
+cast-task c = omega arith
+
+task-requires : tie.Need-task-requires Inv-loop μ-loop
+task-requires c κs = search needs
 
 mul-x : tie.Need-mul-x Inv-loop μ-loop
 mul-x c = omega arith
@@ -54,19 +56,5 @@ returns c = search needs
 
 pub full-queue-spec : {M : Type 1} → statement M
 full-queue-spec =
-    tie.close
-    (tie.spec
-    Inv-loop
-    μ-loop
-    empty-requires
-    loop-holds
-    cast-name
-    element-write-name
-    add-t13
-    cast-t9
-    mul-x
-    element-set-from-x
-    add-i
-    loop-less
-    loop-again
-    returns)
+    tie.close (tie.spec Inv-loop μ-loop empty-requires loop-holds cast-name element-write-name add-task cast-task
+    task-requires mul-x element-set-from-x add-i loop-less loop-again returns)

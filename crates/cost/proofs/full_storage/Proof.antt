@@ -1,20 +1,19 @@
+-- i is a place of the storage or its end, and it has all of its places (invariant); places left fall (measure).
 use Prim.Native.Nat.{_≤_, _-_}
-use mathlib.Core.Path.{_≡_, _∙_}
+use mathlib.Core.Path.{_≡_}
 use native.Mathlib.Omega.{arith}
 use borrow.Author.Needs.{needs}
 use lib.ListN.{length, length-set}
 use Rattle.lists.specs.Arrays.{mapped-length}
+use Rattle.kinds.specs.Limits.{mostAreas}
 use Rattle.cost.proofs.full_storage.Statement.{statement}
 use Rattle.cost.proofs.full_storage.Tie as tie
-use Rattle.cost.proofs.full_storage.Reads as reads
-use Rattle.cost.proofs.full_storage.Lts as lts
-use Rattle.storage.proofs.empty.Reads as empty-reads
 
 abbrev Inv-loop : tie.InvT-loop
-Inv-loop s₀ i₀ s i = (i ≤ 128) × (length (s .areas) ≡ 128)
+Inv-loop s₀ i₀ s i = (i ≤ mostAreas) × (length (s .areas) ≡ mostAreas)
 
 abbrev μ-loop : tie.MeasureT-loop
-μ-loop s₀ i₀ s i = 128 - i
+μ-loop s₀ i₀ s i = mostAreas - i
 
 empty-requires : tie.Need-empty-requires Inv-loop μ-loop
 empty-requires c κs = search needs
@@ -22,11 +21,17 @@ empty-requires c κs = search needs
 loop-holds : tie.Need-loop-holds Inv-loop μ-loop
 loop-holds c = (omega arith, search (needs, mapped-length))
 
-mul-t6 : tie.Need-mul-t6 Inv-loop μ-loop
-mul-t6 c = omega arith
+cast-address : tie.Need-cast-address Inv-loop μ-loop
+cast-address c = omega arith
 
-cast-t7 : tie.Need-cast-t7 Inv-loop μ-loop
-cast-t7 c = omega arith
+mul-address : tie.Need-mul-address Inv-loop μ-loop
+mul-address c = omega arith
+
+address-requires : tie.Need-address-requires Inv-loop μ-loop
+address-requires c κs = search needs
+
+task-requires : tie.Need-task-requires Inv-loop μ-loop
+task-requires c κs = search needs
 
 mul-x : tie.Need-mul-x Inv-loop μ-loop
 mul-x c = omega arith
@@ -48,17 +53,5 @@ returns c = search needs
 
 pub full-storage-spec : {M : Type 1} → statement M
 full-storage-spec =
-    tie.close
-    (tie.spec
-    Inv-loop
-    μ-loop
-    empty-requires
-    loop-holds
-    mul-t6
-    cast-t7
-    mul-x
-    element-set-from-x
-    add-i
-    loop-less
-    loop-again
-    returns)
+    tie.close (tie.spec Inv-loop μ-loop empty-requires loop-holds cast-address mul-address address-requires
+    task-requires mul-x element-set-from-x add-i loop-less loop-again returns)

@@ -1,13 +1,9 @@
+-- At most i of the first i tests came out true (invariant); tests left to make fall (measure).
 use Prim.Native.Nat.{_≤_, _-_}
 use native.Mathlib.Omega.{arith}
 use borrow.Author.Needs.{needs}
 use Rattle.cost.proofs.tests.Statement.{statement}
 use Rattle.cost.proofs.tests.Tie as tie
-use Rattle.cost.proofs.tests.Reads as reads
-use Rattle.cost.proofs.tests.Lts as lts
-use Rattle.cost.proofs.full_tables.Reads as full-tables-reads
-use Rattle.cost.proofs.one_if.Reads as one-if-reads
-use Rattle.services.proofs.Tables.sound.Reads as sound-reads
 
 abbrev Inv-loop : tie.InvT-loop
 Inv-loop n t₀ hits₀ i₀ t hits i = (i ≤ n) × (hits ≤ i)
@@ -47,17 +43,5 @@ returns c = omega arith
 
 pub tests-spec : {M : Type 1} → statement M
 tests-spec =
-    tie.close
-    (tie.spec
-    Inv-loop
-    μ-loop
-    full-tables-requires
-    loop-holds
-    cast-t
-    sound-requires
-    one-if-requires
-    add-hits
-    add-i
-    loop-less
-    loop-again
-    returns)
+    tie.close (tie.spec Inv-loop μ-loop full-tables-requires loop-holds cast-t sound-requires one-if-requires add-hits
+    add-i loop-less loop-again returns)

@@ -1,13 +1,15 @@
-use mathlib.Core.Path.{_≡_, refl, sym, ap, _∙_}
+-- Task 1 ends the step; else the ECB that the place has, as `at` reads it, says which call's contract is cited.
+use mathlib.Core.Path.{_≡_, ap}
+use borrow.Author.Needs.{needs}
 use borrow.Author.Tests.{eq-eqb, ne-eqb}
-use Rattle.rules.specs.Ending.{endTasks, leftBy}
+use Rattle.lists.specs.Pick.{pick}
 use Rattle.kinds.specs.Tasks.{isLive}
 use Rattle.kinds.specs.declared.tasks.Task.{Task}
 use Rattle.kinds.specs.declared.tasks.MaybeEcb.the-variants.{NoEcb}
+use Rattle.rules.specs.Ending.{ended}
 use Rattle.laws.specs.Admitted.{open-used}
-use Rattle.endings.specs.Wholes.{stepIn, wholeOf}
-use Rattle.endings.proofs.Leaving.{ends-step, ends-task, ecb-place, kept-posted}
-use borrow.Author.Needs.{needs}
+use Rattle.endings.specs.Wholes.{stepIn}
+use Rattle.endings.proofs.Leaving.{ecb-place}
 use Rattle.endings.proofs.ended.Statement.{statement}
 use Rattle.endings.proofs.ended.Tie as tie
 
@@ -15,7 +17,8 @@ over-with-requires : tie.Need-over-with-requires
 over-with-requires c κs = search needs
 
 returns : tie.Need-returns
-returns c = ends-step (stepIn ((c .before .before .before .args) .w)) ((c .before .before .before .args) .c .0) ((c .before .before .before .args) .code) _ (eq-eqb _ _ ((c .before .if1) .taken)) ((c .over-with) .ensures)
+unfolding ended pick
+returns c = rw (eq-eqb _ _ (c .before .if1 .taken)) (c .over-with .ensures)
 
 at-requires : tie.Need-at-requires
 at-requires c κs = search needs
@@ -27,35 +30,37 @@ enum-told : tie.Need-enum-told
 enum-told c = search needs
 
 without-requires : tie.Need-without-requires
-without-requires c κs = ((c .before .before .before .before .before .before .before .pre) .packed, ((c .before .before .before .before .before .before .before .pre) .running, ap (λ (x : Task). isLive (x .condition)) ((c .before .before .free) .ensures)))
+without-requires c κs =
+    (search needs, (search needs, ap (λ (x : Task). isLive (x .condition)) (c .before .before .free .ensures)))
 
 enum-known-own : tie.Need-enum-known-own
 enum-known-own c = search needs
 
 kept-as-ended-requires : tie.Need-kept-as-ended-requires
-kept-as-ended-requires c κs = ((c .before .before .before .before .before .before .before .before .pre) .packed, ((c .before .before .before .before .before .before .before .before .pre) .running, ecb-place (stepIn ((c .before .before .before .before .before .before .before .before .args) .w)) ((c .before .before .before .before .before .before .before .before .args) .c .0) _ _ ((c .before .before .before .before .before .before .before .before .pre) .running) (open-used (stepIn ((c .before .before .before .before .before .before .before .before .args) .w)) ((c .before .before .before .before .before .before .before .before .args) .c) ((c .before .before .before .before .before .before .before .before .pre) .gate)) ((c .before .before .before .before .at) .ensures) ((c .before .own) .given .1)))
+kept-as-ended-requires c κs =
+    let b = c .before .before .before .before in
+    let a = b .before .before .before .before in
+    let s = stepIn (a .args .w) in
+    let u = open-used s (a .args .c) (a .pre .gate) in
+    let e = ecb-place s _ _ _ (a .pre .running) u (b .at .ensures) (c .before .own .given .1) in
+    (a .pre .packed, (a .pre .running, e))
 
 returns-2 : tie.Need-returns-2
+unfolding ended pick
 returns-2 c =
-    ends-task (stepIn ((c .before .before .before .before .before .before .before .before .args) .w)) ((c .before .before .before .before .before .before .before .before .args) .c .0) ((c .before .before .before .before .before .before .before .before .args) .code) _ _ NoEcb (ne-eqb _ _ ((c .before .before .before .before .before .before .if1) .left)) ((c .before .before .before .before .at) .ensures) (search needs)
-    ((c .without) .ensures ∙ ap (λ (x : Task). wholeOf (leftBy (stepIn ((c .before .before .before .before .before .before .before .before .args) .w)) (endTasks ((c .before .before .before .before .before .before .before .before .args) .w .family .places) ((c .before .before .before .before .before .before .before .before .args) .c .0) x))) ((c .before .before .before .free) .ensures))
+    let b = c .before .before .before .before in
+    let k : b .at .result .ecb ≡ NoEcb = search needs in
+    let w = rw (c .before .before .before .free .ensures) at (c .without .ensures) in
+    rw (ne-eqb _ _ (b .before .before .if1 .left), ← b .at .ensures, k) w
 
 returns-3 : tie.Need-returns-3
+unfolding ended pick
 returns-3 c =
-    ends-task (stepIn ((c .before .before .before .before .before .before .before .before .before .args) .w)) ((c .before .before .before .before .before .before .before .before .before .args) .c .0) ((c .before .before .before .before .before .before .before .before .before .args) .code) _ _ _ (ne-eqb _ _ ((c .before .before .before .before .before .before .before .if1) .left)) ((c .before .before .before .before .before .at) .ensures) ((c .before .before .own) .given .1)
-    (kept-posted (stepIn ((c .before .before .before .before .before .before .before .before .before .args) .w)) ((c .before .before .before .before .before .before .before .before .before .args) .c .0) ((c .before .before .before .before .before .before .before .before .before .args) .code) _ _ _ ((c .before .before .before .before .before .at) .ensures) ((c .kept-as-ended) .ensures))
+    let b = c .before .before .before .before .before in
+    let k = c .before .before .own .given .1 in
+    rw (ne-eqb _ _ (b .before .before .if1 .left), ← b .at .ensures, k) (rw k at (c .kept-as-ended .ensures))
 
 pub ended-spec : {M : Type 1} → statement M
 ended-spec =
-    tie.close
-    (tie.spec
-    over-with-requires
-    returns
-    at-requires
-    free-requires
-    enum-told
-    without-requires
-    enum-known-own
-    kept-as-ended-requires
-    returns-2
-    returns-3)
+    tie.close (tie.spec over-with-requires returns at-requires free-requires enum-told without-requires
+    enum-known-own kept-as-ended-requires returns-2 returns-3)

@@ -1,10 +1,9 @@
-use mathlib.Core.Path.{_≡_, refl, sym, ap, _∙_}
+-- The place that `with_condition` makes ends with its task, and POST's rule then changes the ECBs and the tasks.
+use mathlib.Core.Path.{ap}
+use borrow.Author.Needs.{needs}
 use Rattle.kinds.specs.Tasks.{isLive}
 use Rattle.kinds.specs.declared.tasks.Task.{Task}
-use Rattle.rules.specs.Ending.{endTasks, leftBy}
-use Rattle.endings.specs.Wholes.{stepIn, wholeOf, postedIn}
-use Rattle.endings.specs.declared.Whole.{Whole}
-use borrow.Author.Needs.{needs}
+use Rattle.signals.specs.Posts.{signalsOf}
 use Rattle.endings.proofs.kept_as_ended.Statement.{statement}
 use Rattle.endings.proofs.kept_as_ended.Tie as tie
 
@@ -12,14 +11,18 @@ with-condition-requires : tie.Need-with-condition-requires
 with-condition-requires c κs = search needs
 
 without-requires : tie.Need-without-requires
-without-requires c κs = ((c .before .pre) .0, ((c .before .pre) .1 .0, ap (λ (x : Task). isLive (x .condition)) ((c .with-condition) .ensures)))
+without-requires c κs =
+    (search needs, (search needs, ap (λ (x : Task). isLive (x .condition)) (c .with-condition .ensures)))
 
-posted-requires : tie.Need-posted-requires
-posted-requires c κs = (c .before .before .pre) .1 .1
+post-requires : tie.Need-post-requires
+post-requires c κs = search needs
 
 returns : tie.Need-returns
-returns c = (c .posted) .ensures ∙ ap (λ (t : Whole). postedIn t ((c .before .before .before .args) .ecb .0) ((c .before .before .before .args) .code)) ((c .before .without) .ensures ∙ ap (λ (x : Task). wholeOf (leftBy (stepIn ((c .before .before .before .args) .w)) (endTasks ((c .before .before .before .args) .w .family .places) ((c .before .before .before .args) .c .0) x))) ((c .before .before .with-condition) .ensures))
+unfolding signalsOf
+returns c =
+    let b = c .before .before .before .before .before in
+    rw (c .before .before .post .ensures, b .without .ensures, b .before .with-condition .ensures)
 
 pub kept-as-ended-spec : {M : Type 1} → statement M
 kept-as-ended-spec =
-    tie.close (tie.spec with-condition-requires without-requires posted-requires returns)
+    tie.close (tie.spec with-condition-requires without-requires post-requires returns)

@@ -1,3 +1,4 @@
+-- Each table is what the contract of its `empty` says.
 use Rattle.rules.specs.Steps.{overStep}
 use borrow.Author.Needs.{needs}
 use Rattle.endings.proofs.over_with.Statement.{statement}
@@ -17,7 +18,9 @@ empty-requires-4 c κs = search needs
 
 returns : tie.Need-returns
 unfolding overStep
-returns c = rw ((c .before .before .before .empty) .ensures, (c .before .before .empty2) .ensures, (c .before .empty3) .ensures, (c .empty4) .ensures)
+returns c =
+    let b = c .before .before in
+    rw (b .before .empty .ensures, b .empty2 .ensures, c .before .empty3 .ensures, c .empty4 .ensures)
 
 pub over-with-spec : {M : Type 1} → statement M
 over-with-spec =

@@ -1,7 +1,7 @@
-use mathlib.Core.Path.{_≡_, sym}
+-- The array's type says its length.
+use mathlib.Core.Path.{sym}
 use borrow.Author.Needs.{needs}
 use borrow.Author.Tests.{eq-eqb}
-use lib.ListN.{length}
 use Rattle.lists.specs.Arrays.{mapped-length}
 use Rattle.rules.specs.SoundEcbs.{ecbsFit}
 use Rattle.events.proofs.ecbs_fit.Statement.{statement}
@@ -9,7 +9,7 @@ use Rattle.events.proofs.ecbs_fit.Tie as tie
 
 returns : tie.Need-returns
 unfolding ecbsFit
-returns c = let h : length ((c .args) .e .ecbs) ≡ 64 = search (needs, mapped-length) in sym (eq-eqb _ _ h)
+returns c = sym (search (needs, mapped-length, eq-eqb))
 
 pub ecbs-fit-spec : {M : Type 1} → statement M
 ecbs-fit-spec = tie.close (tie.spec returns)

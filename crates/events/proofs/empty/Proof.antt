@@ -1,3 +1,4 @@
+-- Every place is the zero ECB that `Ecb::zero` makes.
 use borrow.Author.Needs.{needs}
 use Rattle.events.proofs.empty.Statement.{statement}
 use Rattle.events.proofs.empty.Tie as tie
@@ -6,7 +7,7 @@ zero-requires : tie.Need-zero-requires
 zero-requires c κs = search needs
 
 returns : tie.Need-returns
-returns c = rw ((c .zero) .ensures)
+returns c = rw (c .zero .ensures)
 
 pub empty-spec : {M : Type 1} → statement M
 empty-spec = tie.close (tie.spec zero-requires returns)

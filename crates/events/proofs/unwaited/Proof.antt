@@ -1,3 +1,4 @@
+-- Each return cites the test of the waiter.
 use Rattle.lists.specs.Pick.{chosen}
 use Rattle.rules.specs.Events.{unwaited}
 use Rattle.events.proofs.unwaited.Statement.{statement}

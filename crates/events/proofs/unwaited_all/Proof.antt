@@ -1,26 +1,27 @@
-use Prim.Native.Nat.{ℕ, _+_, _≤_, _-_}
+-- The first i ECBs are unwaited, the others are as before (invariant); places left fall (measure).
+use Prim.Native.Nat.{ℕ, _-_}
 use mathlib.Core.Path.{_≡_, refl, ap, _∙_}
-use mathlib.Core.List.{List}
 use native.Mathlib.Omega.{arith}
 use borrow.Author.Needs.{needs}
-use lib.ListN.{length, getD, set}
+use lib.ListN.{length}
 use Rattle.lists.specs.Numbered.{mapAt-plain, upTo, upTo-next, upTo-end}
 use Rattle.lists.specs.Arrays.{mapped-length}
+use Rattle.kinds.specs.Limits.{allEcbs}
 use Rattle.kinds.specs.Ecbs.{noEcb}
-use Rattle.kinds.specs.declared.ecbs.Ecb.{Ecb}
 use Rattle.rules.specs.Events.{unwaited}
 use Rattle.events.specs.Blocks.{eventsOf}
 use Rattle.events.proofs.unwaited_all.Statement.{statement}
 use Rattle.events.proofs.unwaited_all.Tie as tie
 
 abbrev Inv-loop : tie.InvT-loop
-Inv-loop w r₀ i₀ r i = (i ≤ 64) × (length (r₀ .ecbs) ≡ 64) × (r .ecbs ≡ upTo (λ (k : ℕ) (x : Ecb). unwaited (w .0) x) 0 i (r₀ .ecbs))
+Inv-loop w r₀ i₀ r i =
+    (r .ecbs ≡ upTo (λ (k : ℕ). unwaited (w .0)) 0 i (r₀ .ecbs)) × (length (r₀ .ecbs) ≡ allEcbs)
 
 abbrev μ-loop : tie.MeasureT-loop
-μ-loop w r₀ i₀ r i = 64 - i
+μ-loop w r₀ i₀ r i = allEcbs - i
 
 loop-holds : tie.Need-loop-holds Inv-loop μ-loop
-loop-holds c = (omega arith, search (needs, mapped-length), refl)
+loop-holds c = (refl, search (needs, mapped-length))
 
 mul-x : tie.Need-mul-x Inv-loop μ-loop
 mul-x c = omega arith
@@ -45,30 +46,18 @@ loop-less c = omega arith
 
 loop-again : tie.Need-loop-again Inv-loop μ-loop
 loop-again c =
-    let n : (c .before .before .before .loop) .i ≡ 0 + (c .before .before .before .loop) .i = omega arith in (
-      omega arith,
-      omega arith,
-      ap (λ (l : List Ecb). set l ((c .before .before .before .loop) .i) ((c .unwaited) .result)) ((c .before .before .before .loop) .inv .2)
-          ∙ upTo-next (λ (k : ℕ) (x : Ecb). unwaited ((c .before .before .before .before .args) .w .0) x) 0 ((c .before .before .before .loop) .i) ((c .before .before .before .loop) .i) ((c .before .before .before .before .args) .e .ecbs) noEcb ((c .unwaited) .result) (omega arith) n
-          ((c .unwaited) .ensures ∙ ap (λ (l : List Ecb). unwaited ((c .before .before .before .before .args) .w .0) (getD l ((c .before .before .before .loop) .i) noEcb)) ((c .before .before .before .loop) .inv .2)),
-    )
+    let l = c .before .before .before .loop in
+    let e = rw (l .inv .0) at (c .unwaited .ensures) in
+    (rw (l .inv .0) (upTo-next _ 0 (l .i) (l .i) _ noEcb _ (omega arith) (omega arith) e), omega arith)
 
 returns : tie.Need-returns Inv-loop μ-loop
-returns c = ap eventsOf ((c .before .loop) .inv .2 ∙ upTo-end (λ (k : ℕ) (x : Ecb). unwaited ((c .before .before .args) .w .0) x) 0 ((c .before .loop) .i) ((c .before .before .args) .e .ecbs) (omega arith) ∙ mapAt-plain (unwaited ((c .before .before .args) .w .0)) 0 ((c .before .before .args) .e .ecbs))
+returns c =
+    let l = c .before .loop in
+    let a = c .before .before .args in
+    let f = unwaited (a .w .0) in
+    ap eventsOf (l .inv .0 ∙ upTo-end (λ (k : ℕ). f) 0 (l .i) _ (omega arith) ∙ mapAt-plain f 0 (a .e .ecbs))
 
 pub unwaited-all-spec : {M : Type 1} → statement M
 unwaited-all-spec =
-    tie.close
-    (tie.spec
-    Inv-loop
-    μ-loop
-    loop-holds
-    mul-x
-    element-copy-out-x
-    unwaited-requires
-    mul-y
-    element-set-from-y
-    add-i
-    loop-less
-    loop-again
-    returns)
+    tie.close (tie.spec Inv-loop μ-loop loop-holds mul-x element-copy-out-x unwaited-requires mul-y element-set-from-y
+    add-i loop-less loop-again returns)

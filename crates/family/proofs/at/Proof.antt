@@ -1,8 +1,8 @@
-use mathlib.Core.Path.{_≡_, sym, _∙_}
+-- Each return cites the law of the place that its test names: none, past the last, or there.
+use mathlib.Core.Path.{sym, _∙_}
 use native.Mathlib.Omega.{arith}
-use lib.ListN.{length}
-use Rattle.lists.specs.Arrays.{mapped-length}
-use Rattle.laws.specs.Places.{place-none, place-past, place-at}
+use Rattle.family.proofs.Chains.{place-over}
+use Rattle.laws.specs.Places.{place-none, place-at}
 use borrow.Author.Needs.{needs}
 use Rattle.family.proofs.at.Statement.{statement}
 use Rattle.family.proofs.at.Tie as tie
@@ -11,15 +11,13 @@ free-requires : tie.Need-free-requires
 free-requires c κs = search needs
 
 returns : tie.Need-returns
-returns c = (c .free) .ensures ∙ sym (place-none ((c .before .before .args) .t1 .places) ((c .before .before .args) .n .0) ((c .before .if1) .taken))
+returns c = c .free .ensures ∙ sym (place-none _ _ (c .before .if1 .taken))
 
 free-requires-2 : tie.Need-free-requires-2
 free-requires-2 c κs = search needs
 
 returns-2 : tie.Need-returns-2
-returns-2 c =
-    let h : length ((c .before .before .before .args) .t1 .places) ≡ 32 = search (needs, mapped-length) in
-    (c .free2) .ensures ∙ sym (place-past ((c .before .before .before .args) .t1 .places) ((c .before .before .before .args) .n .0) (omega arith))
+returns-2 c = c .free2 .ensures ∙ sym (search (needs, place-over))
 
 sub-i : tie.Need-sub-i
 sub-i c = search needs
@@ -34,18 +32,9 @@ element-copy-out-result : tie.Need-element-copy-out-result
 element-copy-out-result c = search needs
 
 returns-3 : tie.Need-returns-3
-returns-3 c = sym (place-at ((c .before .before .before .args) .t1 .places) ((c .before .before .before .args) .n .0) (omega arith))
+returns-3 c = sym (place-at _ _ (omega arith))
 
 pub at-spec : {M : Type 1} → statement M
 at-spec =
-    tie.close
-    (tie.spec
-    free-requires
-    returns
-    free-requires-2
-    returns-2
-    sub-i
-    cast-i
-    mul-result
-    element-copy-out-result
-    returns-3)
+    tie.close (tie.spec free-requires returns free-requires-2 returns-2 sub-i cast-i mul-result
+    element-copy-out-result returns-3)

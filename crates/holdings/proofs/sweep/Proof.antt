@@ -1,19 +1,31 @@
-use Prim.Native.Nat.{ℕ, _≤_, _-_}
-use mathlib.Core.Path.{_≡_, sym, ap, _∙_}
+-- What stays of the first i areas is stored (invariant); areas left to look at fall (measure).
+use Prim.Native.Nat.{ℕ, _≤_, _<_, _-_}
+use mathlib.Core.Path.{_≡_, sym, _∙_}
+use mathlib.Core.Bool.{Bool}
+use mathlib.Core.List.{List}
 use mathlib.Core.Logic.{⊎-elim}
 use native.Mathlib.Omega.{arith}
 use borrow.Author.Needs.{needs}
 use lib.ListN.{length, take}
 use Rattle.lists.specs.Lists.{keep}
 use Rattle.lists.specs.Arrays.{mapped-length}
+use Rattle.kinds.specs.Limits.{mostAreas}
+use Rattle.kinds.specs.declared.areas.Area.{Area}
 use Rattle.rules.specs.Ending.{areaStays}
-use Rattle.storage.specs.Stored.{stored}
+use Rattle.storage.specs.Stored.{storedAreas}
+use Rattle.storage.specs.declared.Storage.{Storage}
 use Rattle.storage.proofs.Sweeps.{room, full, kept, passed}
 use Rattle.holdings.proofs.sweep.Statement.{statement}
 use Rattle.holdings.proofs.sweep.Tie as tie
 
+has-room : (f : Area → Bool) (es : List Area) (i : ℕ) (r : Storage) → i < length es → i < mostAreas
+    → r ≡ storedAreas (keep f (take i es)) → (r .count < mostAreas) × (length (r .areas) ≡ mostAreas)
+has-room f es i r h k e = (room f es i h k r e, full f es i h k r e)
+
 abbrev Inv-loop : tie.InvT-loop
-Inv-loop f s n r₀ i₀ r i = (i ≤ n) × (n ≤ 128) × (length (s .areas) ≡ 128) × (r ≡ stored (keep (areaStays (f .places)) (take i (s .areas))))
+Inv-loop f s n r₀ i₀ r i =
+    (r ≡ storedAreas (keep (areaStays (f .places)) (take i (s .areas))))
+    × ((i ≤ n) × (n ≤ mostAreas) × (length (s .areas) ≡ mostAreas))
 
 abbrev μ-loop : tie.MeasureT-loop
 μ-loop f s n r₀ i₀ r i = n - i
@@ -22,7 +34,7 @@ empty-requires : tie.Need-empty-requires Inv-loop μ-loop
 empty-requires c κs = search needs
 
 loop-holds : tie.Need-loop-holds Inv-loop μ-loop
-loop-holds c = (omega arith, omega (arith, c .before .pre .room), search (needs, mapped-length), c .empty .ensures)
+loop-holds c = (c .empty .ensures, (omega arith, c .before .pre .room, search (needs, mapped-length)))
 
 mul-x : tie.Need-mul-x Inv-loop μ-loop
 mul-x c = omega arith
@@ -35,25 +47,27 @@ stays-requires c κs = search needs
 
 mul-x-2 : tie.Need-mul-x-2 Inv-loop μ-loop
 mul-x-2 c =
-    let a = c .before .before .before .before .before .before .args in
-    let l = c .before .before .before .before .loop in
-    let h = room (areaStays (a .f .places)) (a .t1 .areas) (l .i) (omega arith) (omega arith) (l .r) (l .inv .3) in
-    let k = full (areaStays (a .f .places)) (a .t1 .areas) (l .i) (omega arith) (omega arith) (l .r) (l .inv .3) in
+    let b = c .before .before .before .before in
+    let a = b .before .before .args in
+    let l = b .loop in
+    let h = has-room (areaStays (a .f .places)) (a .t1 .areas) (l .i) (l .r) (omega arith) (omega arith) (l .inv .0) in
     omega arith
 
 element-set-from-x : tie.Need-element-set-from-x Inv-loop μ-loop
 element-set-from-x c =
-    let a = c .before .before .before .before .before .before .args in
-    let l = c .before .before .before .before .loop in
-    let h = room (areaStays (a .f .places)) (a .t1 .areas) (l .i) (omega arith) (omega arith) (l .r) (l .inv .3) in
-    let k = full (areaStays (a .f .places)) (a .t1 .areas) (l .i) (omega arith) (omega arith) (l .r) (l .inv .3) in
+    let b = c .before .before .before .before in
+    let a = b .before .before .args in
+    let l = b .loop in
+    let h = has-room (areaStays (a .f .places)) (a .t1 .areas) (l .i) (l .r) (omega arith) (omega arith) (l .inv .0) in
     omega arith
 
 add-r : tie.Need-add-r Inv-loop μ-loop
 add-r c =
-    let a = c .before .before .before .before .before .before .args in
-    let l = c .before .before .before .before .loop in
-    let h = room (areaStays (a .f .places)) (a .t1 .areas) (l .i) (omega arith) (omega arith) (l .r) (l .inv .3) in omega arith
+    let b = c .before .before .before .before in
+    let a = b .before .before .args in
+    let l = b .loop in
+    let h = has-room (areaStays (a .f .places)) (a .t1 .areas) (l .i) (l .r) (omega arith) (omega arith) (l .inv .0) in
+    omega arith
 
 add-i : tie.Need-add-i Inv-loop μ-loop
 add-i c = omega arith
@@ -63,39 +77,23 @@ loop-less c = omega arith
 
 loop-again : tie.Need-loop-again Inv-loop μ-loop
 loop-again c =
-    let a = c .before .before .before .before .before .before .args in
-    let l = c .before .before .before .before .loop in (
+    let b = c .before .before .before .before in
+    let l = b .loop in
+    let f = areaStays (b .before .before .args .f .places) in
+    let s = b .before .before .args .t1 .areas in
+    let e = sym (c .before .stays .ensures) in (
+      ⊎-elim (λ w. kept f s (l .i) (omega arith) (omega arith) _ (l .inv .0) _ _ (e ∙ w .0 .taken) (w .1))
+          (λ w. passed f s (l .i) (omega arith) (omega arith) _ (l .inv .0) _ _ (e ∙ w .0 .left) (w .1)) (c .if1 .came),
       omega arith,
-      omega arith,
-      omega arith,
-      ⊎-elim
-          (λ w. kept (areaStays (a .f .places)) (a .t1 .areas) (l .i) (omega arith) (omega arith) (l .r) (l .inv .3) _ _ (sym (c .before .stays .ensures) ∙ w .0 .taken) (w .1))
-          (λ w. passed (areaStays (a .f .places)) (a .t1 .areas) (l .i) (omega arith) (omega arith) (l .r) (l .inv .3) _ _ (sym (c .before .stays .ensures) ∙ w .0 .left) (w .1))
-          (c .if1 .came),
     )
 
 returns : tie.Need-returns Inv-loop μ-loop
 returns c =
-    let a = c .before .before .before .args in
     let l = c .before .loop in
-    let e : l .i ≡ a .t1 .count = omega arith in
-    l .inv .3 ∙ ap (λ (k : ℕ). stored (keep (areaStays (a .f .places)) (take k (a .t1 .areas)))) e
+    let e : l .i ≡ c .before .before .before .args .t1 .count = omega arith in
+    rw e at (l .inv .0)
 
 pub sweep-spec : {M : Type 1} → statement M
 sweep-spec =
-    tie.close
-    (tie.spec
-    Inv-loop
-    μ-loop
-    empty-requires
-    loop-holds
-    mul-x
-    element-copy-out-x
-    stays-requires
-    mul-x-2
-    element-set-from-x
-    add-r
-    add-i
-    loop-less
-    loop-again
-    returns)
+    tie.close (tie.spec Inv-loop μ-loop empty-requires loop-holds mul-x element-copy-out-x stays-requires mul-x-2
+    element-set-from-x add-r add-i loop-less loop-again returns)

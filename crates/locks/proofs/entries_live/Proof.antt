@@ -1,16 +1,17 @@
+-- All entries are of live tasks just where those from i on are (invariant); entries left to look at fall (measure).
 use Prim.Native.Nat.{_≤_, _-_}
 use mathlib.Core.Path.{_≡_, refl, sym, _∙_}
 use mathlib.Core.List.{map}
+use native.Mathlib.Nat.{le-antisymm}
 use native.Mathlib.Omega.{arith}
 use borrow.Author.Needs.{needs}
-use borrow.Author.Tests.{not-true, not-false}
-use lib.ListN.{length, take}
+use lib.ListN.{length}
 use lib.Seq.{slice}
 use Rattle.lists.specs.Lists.{every}
-use Rattle.lists.specs.Arrays.{mapped-length}
+use Rattle.lists.specs.Arrays.{within}
+use Rattle.lists.specs.Pick.{test-held-not, test-failed-not}
 use Rattle.lists.specs.Every.{every-end, all-fails, all-goes}
-use Rattle.queue.specs.Queues.{entryOf}
-use Rattle.kinds.specs.Limits.{mostEntries}
+use Rattle.queue.specs.Queues.{entryOf, entriesIn}
 use Rattle.rules.specs.Family.{live as liveTask}
 use Rattle.rules.specs.Control.{Entry}
 use Rattle.rules.specs.SoundQueue.{entriesLive}
@@ -18,13 +19,17 @@ use Rattle.locks.proofs.entries_live.Statement.{statement}
 use Rattle.locks.proofs.entries_live.Tie as tie
 
 abbrev Inv-loop : tie.InvT-loop
-Inv-loop f q n i₀ i = (i ≤ n) × (n ≤ mostEntries) × (length (q .slots) ≡ mostEntries) × (every (λ (e : Entry). liveTask (f .places) (e .task)) (take n (map entryOf (q .slots))) ≡ every (λ (e : Entry). liveTask (f .places) (e .task)) (slice i n (map entryOf (q .slots))))
+Inv-loop f q n i₀ i =
+    (entriesLive (f .places) (entriesIn q)
+    ≡ every (λ (e : Entry). liveTask (f .places) (e .task)) (slice i n (map entryOf (q .slots))))
+    × ((i ≤ n) × (n ≤ length (q .slots)))
 
 abbrev μ-loop : tie.MeasureT-loop
 μ-loop f q n i₀ i = n - i
 
 loop-holds : tie.Need-loop-holds Inv-loop μ-loop
-loop-holds c = (omega arith, omega arith, search (needs, mapped-length), refl)
+unfolding entriesLive
+loop-holds c = (refl, search (needs, within))
 
 mul-x : tie.Need-mul-x Inv-loop μ-loop
 mul-x c = omega arith
@@ -36,8 +41,9 @@ is-live-requires : tie.Need-is-live-requires Inv-loop μ-loop
 is-live-requires c κs = search needs
 
 returns : tie.Need-returns Inv-loop μ-loop
-unfolding entriesLive
-returns c = sym ((c .before .before .before .before .before .loop) .inv .3 ∙ all-fails entryOf ((c .before .before .before .before .before .before .args) .t1 .slots) ((c .before .before .before .before .before .loop) .i) ((c .before .before .before .before .before .before .args) .t1 .count) _ (omega arith) (omega arith) (λ (e : Entry). liveTask ((c .before .before .before .before .before .before .args) .f .places) (e .task)) (sym ((c .before .is-live) .ensures) ∙ not-true _ ((c .if1) .taken)))
+returns c =
+    let h = test-failed-not _ _ (c .before .is-live .ensures) (c .if1 .taken) in
+    sym (c .before .before .before .before .before .loop .inv .0 ∙ search (needs, all-fails entryOf))
 
 add-i : tie.Need-add-i Inv-loop μ-loop
 add-i c = omega arith
@@ -46,24 +52,14 @@ loop-less : tie.Need-loop-less Inv-loop μ-loop
 loop-less c = omega arith
 
 loop-again : tie.Need-loop-again Inv-loop μ-loop
-loop-again c = (omega arith, omega arith, omega arith, (c .before .before .before .before .before .loop) .inv .3 ∙ all-goes entryOf ((c .before .before .before .before .before .before .args) .t1 .slots) ((c .before .before .before .before .before .loop) .i) ((c .before .before .before .before .before .before .args) .t1 .count) _ (omega arith) (omega arith) (λ (e : Entry). liveTask ((c .before .before .before .before .before .before .args) .f .places) (e .task)) (sym ((c .before .is-live) .ensures) ∙ not-false _ ((c .if1) .left)))
+loop-again c =
+    let h = test-held-not _ _ (c .before .is-live .ensures) (c .if1 .left) in
+    (c .before .before .before .before .before .loop .inv .0 ∙ search (needs, all-goes entryOf), omega arith)
 
 returns-2 : tie.Need-returns-2 Inv-loop μ-loop
-unfolding entriesLive
-returns-2 c = sym ((c .before .loop) .inv .3 ∙ every-end (λ (e : Entry). liveTask ((c .before .before .args) .f .places) (e .task)) ((c .before .loop) .i) ((c .before .before .args) .t1 .count) (map entryOf ((c .before .before .args) .t1 .slots)) (omega arith))
+returns-2 c = sym (c .before .loop .inv .0 ∙ search (needs, every-end, le-antisymm))
 
 pub entries-live-spec : {M : Type 1} → statement M
 entries-live-spec =
-    tie.close
-    (tie.spec
-    Inv-loop
-    μ-loop
-    loop-holds
-    mul-x
-    element-copy-out-x
-    is-live-requires
-    returns
-    add-i
-    loop-less
-    loop-again
-    returns-2)
+    tie.close (tie.spec Inv-loop μ-loop loop-holds mul-x element-copy-out-x is-live-requires returns add-i loop-less
+    loop-again returns-2)

@@ -1,9 +1,9 @@
-use Prim.Native.Nat.{ℕ, _≤_, _-_}
-use mathlib.Core.Path.{_≡_, refl, ap, _∙_}
+-- The first i bytes are copied, and zeros follow (invariant); bytes left to copy fall (measure).
+use Prim.Native.Nat.{_≤_, _-_}
+use mathlib.Core.Path.{_≡_, refl}
 use native.Mathlib.Omega.{arith}
 use borrow.Author.Needs.{needs}
-use mathlib.Core.List.{List}
-use lib.ListN.{length, take, set, getD, length-set}
+use lib.ListN.{length, take}
 use Rattle.lists.specs.Tables.{padded}
 use Rattle.kinds.specs.Limits.{longestMinor}
 use Rattle.names.proofs.Cleaning.{copied, cleaned}
@@ -11,7 +11,9 @@ use Rattle.names.proofs.clean.Statement.{statement}
 use Rattle.names.proofs.clean.Tie as tie
 
 abbrev Inv-loop : tie.InvT-loop
-Inv-loop n major bytes used minor₀ i₀ minor i = (i ≤ used) × (used ≤ longestMinor) × (length bytes ≡ longestMinor) × (length minor ≡ longestMinor) × (minor ≡ padded longestMinor 0 (take i bytes))
+Inv-loop n major bytes used minor₀ i₀ minor i =
+    (minor ≡ padded longestMinor 0 (take i bytes))
+    × ((i ≤ used) × (used ≤ longestMinor) × (length bytes ≡ longestMinor) × (length minor ≡ longestMinor))
 
 abbrev μ-loop : tie.MeasureT-loop
 μ-loop n major bytes used minor₀ i₀ minor i = used - i
@@ -21,7 +23,7 @@ cast-used c = omega arith
 
 loop-holds : tie.Need-loop-holds Inv-loop μ-loop
 unfolding padded
-loop-holds c = (omega arith, omega arith, search needs, search needs, refl)
+loop-holds c = (refl, search needs)
 
 array-read-minor : tie.Need-array-read-minor Inv-loop μ-loop
 array-read-minor c = omega arith
@@ -37,33 +39,16 @@ loop-less c = omega arith
 
 loop-again : tie.Need-loop-again Inv-loop μ-loop
 loop-again c =
-    let a = (c .before .before .before .before .before .args) in
-    let l = (c .before .loop) in (
-      omega arith,
-      omega arith,
-      omega arith,
-      length-set (l .minor) (l .i) (getD (a .n .minor) (l .i) 0) ∙ l .inv .3,
-      ap (λ (b : List ℕ). set b (l .i) (getD (a .n .minor) (l .i) 0)) (l .inv .4) ∙ copied (a .n .minor) (l .i) (omega arith) (omega arith),
-    )
+    let l = c .before .loop in
+    (copied _ _ (l .i) (omega arith) (omega arith) (l .inv .0), search needs)
 
 returns : tie.Need-returns Inv-loop μ-loop
 returns c =
-    let a = (c .before .before .before .before .before .args) in
-    let l = (c .before .loop) in
-    let e : l .i ≡ a .n .length = omega arith in
-    cleaned (a .n) (l .minor) (omega arith) (l .inv .4 ∙ ap (λ (k : ℕ). padded longestMinor 0 (take k (a .n .minor))) e)
+    let l = c .before .loop in
+    let a = c .before .before .before .before .before .args in
+    cleaned (a .n) (l .minor) (l .i) (omega arith) (omega arith) (l .inv .0)
 
 pub clean-spec : {M : Type 1} → statement M
 clean-spec =
-    tie.close
-    (tie.spec
-    Inv-loop
-    μ-loop
-    cast-used
-    loop-holds
-    array-read-minor
-    array-write-minor
-    add-i
-    loop-less
-    loop-again
-    returns)
+    tie.close (tie.spec Inv-loop μ-loop cast-used loop-holds array-read-minor array-write-minor add-i loop-less
+    loop-again returns)

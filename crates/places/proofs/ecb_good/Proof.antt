@@ -1,3 +1,4 @@
+-- Each return cites the variant that led to it, the second also the contract of the test of the number.
 use borrow.Author.Needs.{needs}
 use Rattle.places.proofs.ecb_good.Statement.{statement}
 use Rattle.places.proofs.ecb_good.Tie as tie
@@ -15,7 +16,7 @@ returns : tie.Need-returns
 returns c = search needs
 
 returns-2 : tie.Need-returns-2
-returns-2 c = rw ((c .before .before .e) .given .1) ((c .is-good) .ensures)
+returns-2 c = rw (c .before .before .e .given .1) (c .is-good .ensures)
 
 pub ecb-good-spec : {M : Type 1} → statement M
 ecb-good-spec = tie.close (tie.spec enum-told enum-known-e is-good-requires returns returns-2)

@@ -1,3 +1,4 @@
+-- The answer is that of the tests of task 1's place, by their contracts and that of the look-up.
 use mathlib.Core.Path.{ap}
 use mathlib.Core.Bool.{not, _&&_}
 use borrow.Author.Needs.{needs}
@@ -21,8 +22,9 @@ has-ecb-requires c κs = search needs
 returns : tie.Need-returns
 unfolding jobStepGood mother
 returns c =
-    rw ((c .before .before .is-live) .ensures, (c .has-ecb) .ensures)
-    (ap (λ (x : Task). isLive (x .condition) && (eqb (x .mother .0) 0 && not (hasEcb (x .ecb)))) ((c .before .before .before .at) .ensures))
+    rw (c .before .before .is-live .ensures, c .has-ecb .ensures)
+    (ap (λ (x : Task). isLive (x .condition) && (eqb (x .mother .0) 0 && not (hasEcb (x .ecb))))
+    (c .before .before .before .at .ensures))
 
 pub job-step-good-spec : {M : Type 1} → statement M
 job-step-good-spec = tie.close (tie.spec at-requires is-live-requires has-ecb-requires returns)

@@ -1,3 +1,4 @@
+-- The answer cites the contract of the test of the limit.
 use borrow.Author.Needs.{needs}
 use Rattle.places.proofs.order_good.Statement.{statement}
 use Rattle.places.proofs.order_good.Tie as tie
@@ -9,7 +10,7 @@ priority-good-requires : tie.Need-priority-good-requires
 priority-good-requires c κs = search needs
 
 returns : tie.Need-returns
-returns c = rw ((c .before .priority-good) .ensures)
+returns c = rw (c .before .priority-good .ensures)
 
 pub order-good-spec : {M : Type 1} → statement M
 order-good-spec = tie.close (tie.spec cast-priority-good priority-good-requires returns)

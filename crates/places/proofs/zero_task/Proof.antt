@@ -1,3 +1,4 @@
+-- The answer cites the contracts of the two tests.
 use borrow.Author.Needs.{needs}
 use Rattle.rules.specs.SoundTasks.{zeroTask}
 use Rattle.places.proofs.zero_task.Statement.{statement}
@@ -11,7 +12,7 @@ has-ecb-requires c κs = search needs
 
 returns : tie.Need-returns
 unfolding zeroTask
-returns c = rw ((c .before .before .before .before .is-free) .ensures, (c .has-ecb) .ensures)
+returns c = rw (c .before .before .before .before .is-free .ensures, c .has-ecb .ensures)
 
 pub zero-task-spec : {M : Type 1} → statement M
 zero-task-spec = tie.close (tie.spec is-free-requires has-ecb-requires returns)

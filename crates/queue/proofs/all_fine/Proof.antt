@@ -1,26 +1,24 @@
+-- The answer is that of the slots from i on (invariant); slots left to look at fall (measure).
 use Prim.Native.Nat.{_≤_, _-_}
-use mathlib.Core.Path.{_≡_, refl, sym, _∙_}
+use mathlib.Core.Path.{_≡_}
 use native.Mathlib.Omega.{arith}
 use borrow.Author.Needs.{needs}
-use borrow.Author.Tests.{not-true, not-false}
-use lib.ListN.{length, take}
-use lib.Seq.{slice}
-use Rattle.lists.specs.Lists.{every}
+use lib.ListN.{length}
+use Rattle.lists.specs.Loops.{All, all-start, all-stops, all-goes-on, all-over}
 use Rattle.lists.specs.Arrays.{mapped-length}
-use Rattle.lists.specs.Every.{every-fails, every-goes, every-end}
 use Rattle.queue.specs.Queues.{isFine, allFine}
 use Rattle.kinds.specs.Limits.{mostEntries}
 use Rattle.queue.proofs.all_fine.Statement.{statement}
 use Rattle.queue.proofs.all_fine.Tie as tie
 
 abbrev Inv-loop : tie.InvT-loop
-Inv-loop q n i₀ i = (i ≤ n) × (n ≤ mostEntries) × (length (q .slots) ≡ mostEntries) × (every isFine (take n (q .slots)) ≡ every isFine (slice i n (q .slots)))
+Inv-loop q n i₀ i = (i ≤ n) × (n ≤ mostEntries) × (length (q .slots) ≡ mostEntries) × All isFine (q .slots) i n
 
 abbrev μ-loop : tie.MeasureT-loop
 μ-loop q n i₀ i = n - i
 
 loop-holds : tie.Need-loop-holds Inv-loop μ-loop
-loop-holds c = (omega arith, omega arith, search (needs, mapped-length), refl)
+loop-holds c = (omega arith, omega arith, search (needs, mapped-length), all-start)
 
 mul-x : tie.Need-mul-x Inv-loop μ-loop
 mul-x c = omega arith
@@ -33,7 +31,9 @@ is-fine-requires c κs = search needs
 
 returns : tie.Need-returns Inv-loop μ-loop
 unfolding allFine
-returns c = sym ((c .before .before .before .before .loop) .inv .3 ∙ every-fails isFine ((c .before .before .before .before .loop) .i) ((c .before .before .before .before .before .args) .t1 .count) ((c .before .before .before .before .before .args) .t1 .slots) _ (omega arith) (omega arith) (sym ((c .before .is-fine) .ensures) ∙ not-true _ ((c .if1) .taken)))
+returns c =
+    let v = c .before .before .before .before .loop .inv .3 in
+    all-stops v (omega arith) (omega arith) _ (c .before .is-fine .ensures) (c .if1 .taken)
 
 add-i : tie.Need-add-i Inv-loop μ-loop
 add-i c = omega arith
@@ -42,24 +42,16 @@ loop-less : tie.Need-loop-less Inv-loop μ-loop
 loop-less c = omega arith
 
 loop-again : tie.Need-loop-again Inv-loop μ-loop
-loop-again c = (omega arith, omega arith, omega arith, (c .before .before .before .before .loop) .inv .3 ∙ every-goes isFine ((c .before .before .before .before .loop) .i) ((c .before .before .before .before .before .args) .t1 .count) ((c .before .before .before .before .before .args) .t1 .slots) _ (omega arith) (omega arith) (sym ((c .before .is-fine) .ensures) ∙ not-false _ ((c .if1) .left)))
+loop-again c =
+    let v = c .before .before .before .before .loop .inv .3 in
+    let e = all-goes-on v (omega arith) (omega arith) _ (c .before .is-fine .ensures) (c .if1 .left) in
+    (omega arith, omega arith, omega arith, e)
 
 returns-2 : tie.Need-returns-2 Inv-loop μ-loop
 unfolding allFine
-returns-2 c = sym ((c .before .loop) .inv .3 ∙ every-end isFine ((c .before .loop) .i) ((c .before .before .args) .t1 .count) ((c .before .before .args) .t1 .slots) (omega arith))
+returns-2 c = all-over (c .before .loop .inv .3) (omega arith)
 
 pub all-fine-spec : {M : Type 1} → statement M
 all-fine-spec =
-    tie.close
-    (tie.spec
-    Inv-loop
-    μ-loop
-    loop-holds
-    mul-x
-    element-copy-out-x
-    is-fine-requires
-    returns
-    add-i
-    loop-less
-    loop-again
-    returns-2)
+    tie.close (tie.spec Inv-loop μ-loop loop-holds mul-x element-copy-out-x is-fine-requires returns add-i loop-less
+    loop-again returns-2)

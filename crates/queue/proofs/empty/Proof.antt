@@ -1,3 +1,4 @@
+-- The struct is written out as the definition has it.
 use mathlib.Core.Path.{refl}
 use Rattle.lists.specs.Tables.{padded}
 use Rattle.queue.proofs.empty.Statement.{statement}

@@ -1,30 +1,34 @@
+-- The answer is that of the entries from i on (invariant); entries left to look at fall (measure).
 use Prim.Native.Nat.{_≤_, _-_}
-use mathlib.Core.Path.{_≡_, refl, sym, _∙_}
-use mathlib.Core.List.{map}
+use mathlib.Core.Path.{_≡_, _∙_}
+use mathlib.Core.Bool.{Bool}
 use native.Mathlib.Omega.{arith}
 use borrow.Author.Needs.{needs}
-use borrow.Author.Tests.{not-true, not-false}
-use lib.ListN.{length, take}
-use lib.Seq.{slice}
-use Rattle.lists.specs.Lists.{every}
+use lib.ListN.{length}
+use Rattle.lists.specs.Loops.{All, all-start, all-stops, all-goes-on, all-over, all-shown}
 use Rattle.lists.specs.Arrays.{mapped-length}
-use Rattle.lists.specs.Every.{every-end, all-fails, all-goes}
 use Rattle.queue.specs.Queues.{entryOf}
 use Rattle.rules.specs.SoundQueue.{entryNamesGood}
 use Rattle.rules.specs.Names.{legal}
 use Rattle.rules.specs.Control.{Entry}
 use Rattle.kinds.specs.Limits.{mostEntries}
+use Rattle.kinds.specs.declared.names.Slot.{Slot}
 use Rattle.queue.proofs.entry_names_good.Statement.{statement}
 use Rattle.queue.proofs.entry_names_good.Tie as tie
 
+abbrev good : Entry → Bool
+good e = legal (e .name)
+
 abbrev Inv-loop : tie.InvT-loop
-Inv-loop q n i₀ i = (i ≤ n) × (n ≤ mostEntries) × (length (q .slots) ≡ mostEntries) × (every (λ (e : Entry). legal (e .name)) (take n (map entryOf (q .slots))) ≡ every (λ (e : Entry). legal (e .name)) (slice i n (map entryOf (q .slots))))
+Inv-loop q n i₀ i =
+    (i ≤ n) × (n ≤ mostEntries) × (length (q .slots) ≡ mostEntries)
+    × All (λ (s : Slot). good (entryOf s)) (q .slots) i n
 
 abbrev μ-loop : tie.MeasureT-loop
 μ-loop q n i₀ i = n - i
 
 loop-holds : tie.Need-loop-holds Inv-loop μ-loop
-loop-holds c = (omega arith, omega arith, search (needs, mapped-length), refl)
+loop-holds c = (omega arith, omega arith, search (needs, mapped-length), all-start)
 
 mul-x : tie.Need-mul-x Inv-loop μ-loop
 mul-x c = omega arith
@@ -37,7 +41,11 @@ is-legal-requires c κs = search needs
 
 returns : tie.Need-returns Inv-loop μ-loop
 unfolding entryNamesGood
-returns c = sym ((c .before .before .before .before .before .loop) .inv .3 ∙ all-fails entryOf ((c .before .before .before .before .before .before .args) .t1 .slots) ((c .before .before .before .before .before .loop) .i) ((c .before .before .before .before .before .before .args) .t1 .count) _ (omega arith) (omega arith) (λ (e : Entry). legal (e .name)) (sym ((c .before .is-legal) .ensures) ∙ not-true _ ((c .if1) .taken)))
+returns c =
+    let t = c .before .before .before .before .before in
+    let q = t .before .args .t1 in
+    all-stops (t .loop .inv .3) (omega arith) (omega arith) _ (c .before .is-legal .ensures) (c .if1 .taken)
+    ∙ all-shown entryOf good (q .count) (q .slots)
 
 add-i : tie.Need-add-i Inv-loop μ-loop
 add-i c = omega arith
@@ -46,24 +54,18 @@ loop-less : tie.Need-loop-less Inv-loop μ-loop
 loop-less c = omega arith
 
 loop-again : tie.Need-loop-again Inv-loop μ-loop
-loop-again c = (omega arith, omega arith, omega arith, (c .before .before .before .before .before .loop) .inv .3 ∙ all-goes entryOf ((c .before .before .before .before .before .before .args) .t1 .slots) ((c .before .before .before .before .before .loop) .i) ((c .before .before .before .before .before .before .args) .t1 .count) _ (omega arith) (omega arith) (λ (e : Entry). legal (e .name)) (sym ((c .before .is-legal) .ensures) ∙ not-false _ ((c .if1) .left)))
+loop-again c =
+    let v = c .before .before .before .before .before .loop .inv .3 in
+    let e = all-goes-on v (omega arith) (omega arith) _ (c .before .is-legal .ensures) (c .if1 .left) in
+    (omega arith, omega arith, omega arith, e)
 
 returns-2 : tie.Need-returns-2 Inv-loop μ-loop
 unfolding entryNamesGood
-returns-2 c = sym ((c .before .loop) .inv .3 ∙ every-end (λ (e : Entry). legal (e .name)) ((c .before .loop) .i) ((c .before .before .args) .t1 .count) (map entryOf ((c .before .before .args) .t1 .slots)) (omega arith))
+returns-2 c =
+    let q = c .before .before .args .t1 in
+    all-over (c .before .loop .inv .3) (omega arith) ∙ all-shown entryOf good (q .count) (q .slots)
 
 pub entry-names-good-spec : {M : Type 1} → statement M
 entry-names-good-spec =
-    tie.close
-    (tie.spec
-    Inv-loop
-    μ-loop
-    loop-holds
-    mul-x
-    element-copy-out-x
-    is-legal-requires
-    returns
-    add-i
-    loop-less
-    loop-again
-    returns-2)
+    tie.close (tie.spec Inv-loop μ-loop loop-holds mul-x element-copy-out-x is-legal-requires returns add-i loop-less
+    loop-again returns-2)

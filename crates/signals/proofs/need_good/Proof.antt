@@ -1,3 +1,4 @@
+-- Each arm computes; that of an ECB wait first learns which condition it is.
 use borrow.Author.Needs.{needs}
 use Rattle.signals.proofs.need_good.Statement.{statement}
 use Rattle.signals.proofs.need_good.Tie as tie
@@ -34,15 +35,5 @@ returns-5 c = search needs
 
 pub need-good-spec : {M : Type 1} → statement M
 need-good-spec =
-    tie.close
-    (tie.spec
-    enum-told
-    enum-told-2
-    enum-told-3
-    enum-known-k
-    enum-told-4
-    returns
-    returns-2
-    returns-3
-    returns-4
-    returns-5)
+    tie.close (tie.spec enum-told enum-told-2 enum-told-3 enum-known-k enum-told-4 returns returns-2 returns-3
+    returns-4 returns-5)

@@ -1,3 +1,4 @@
+-- Each arm computes; those of an ECB wait first learn how many posts it needs.
 use borrow.Author.Needs.{needs}
 use Rattle.lists.specs.Pick.{chosen}
 use Rattle.rules.specs.Events.{onePostFewer}
@@ -48,17 +49,5 @@ returns-6 c = search chosen
 
 pub one-post-fewer-spec : {M : Type 1} → statement M
 one-post-fewer-spec =
-    tie.close
-    (tie.spec
-    enum-told
-    enum-told-2
-    enum-told-3
-    enum-known-k
-    sub-t6
-    enum-told-4
-    returns
-    returns-2
-    returns-3
-    returns-4
-    returns-5
-    returns-6)
+    tie.close (tie.spec enum-told enum-told-2 enum-told-3 enum-known-k sub-t6 enum-told-4 returns returns-2 returns-3
+    returns-4 returns-5 returns-6)

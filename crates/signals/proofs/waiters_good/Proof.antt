@@ -1,27 +1,32 @@
-use Prim.Native.Nat.{_≤_, _-_}
+-- The waiters are good exactly if those from ECB i on are (invariant); the ECBs left to look at fall (measure).
+use Prim.Native.Nat.{_-_}
 use mathlib.Core.Path.{_≡_, refl, sym, _∙_}
-use mathlib.Core.Bool.{true, false}
 use native.Mathlib.Omega.{arith}
 use borrow.Author.Needs.{needs}
 use borrow.Author.Tests.{not-true, not-false}
-use lib.ListN.{length, getD, drop}
+use lib.ListN.{length, drop}
 use Rattle.lists.specs.Lists.{every}
-use Rattle.lists.specs.Every.{rest-fails, rest-goes, rest-end}
+use Rattle.lists.specs.Every.{rest-end}
 use Rattle.lists.specs.Arrays.{mapped-length}
-use Rattle.kinds.specs.Ecbs.{noEcb}
-use Rattle.signals.specs.Sound.{waiters-each, waiter-none, waiter-past, waiter-at}
+use Rattle.kinds.specs.Limits.{highestTask, allEcbs}
+use Rattle.rules.specs.SoundEcbs.{waitersGood}
+use Rattle.signals.specs.Sound.{waiter-none, waiter-past, waiter-at}
 use Rattle.laws.specs.Blocks.{waiterGood}
 use Rattle.signals.proofs.waiters_good.Statement.{statement}
 use Rattle.signals.proofs.waiters_good.Tie as tie
 
 abbrev Inv-loop : tie.InvT-loop
-Inv-loop e f i₀ i = (i ≤ 64) × (length (e .ecbs) ≡ 64) × (length (f .places) ≡ 32) × (every (waiterGood (f .places)) (e .ecbs) ≡ every (waiterGood (f .places)) (drop i (e .ecbs)))
+Inv-loop e f i₀ i =
+    (length (e .ecbs) ≡ allEcbs)
+    × (length (f .places) ≡ highestTask)
+    × (waitersGood (f .places) (e .ecbs) ≡ every (waiterGood (f .places)) (drop i (e .ecbs)))
 
 abbrev μ-loop : tie.MeasureT-loop
-μ-loop e f i₀ i = 64 - i
+μ-loop e f i₀ i = allEcbs - i
 
 loop-holds : tie.Need-loop-holds Inv-loop μ-loop
-loop-holds c = (omega arith, search (needs, mapped-length), search (needs, mapped-length), refl)
+unfolding waitersGood
+loop-holds c = (search (needs, mapped-length), search (needs, mapped-length), refl)
 
 mul-x : tie.Need-mul-x Inv-loop μ-loop
 mul-x c = omega arith
@@ -33,7 +38,11 @@ add-i : tie.Need-add-i Inv-loop μ-loop
 add-i c = omega arith
 
 returns : tie.Need-returns Inv-loop μ-loop
-returns c = sym (sym (waiters-each ((c .before .before .before .before .before .args) .t2 .places) ((c .before .before .before .before .before .args) .t1 .ecbs)) ∙ (c .before .before .before .before .loop) .inv .3 ∙ rest-fails (waiterGood ((c .before .before .before .before .before .args) .t2 .places)) ((c .before .before .before .before .before .args) .t1 .ecbs) ((c .before .before .before .before .loop) .i) noEcb (omega arith) (waiter-past ((c .before .before .before .before .before .args) .t2 .places) (getD ((c .before .before .before .before .before .args) .t1 .ecbs) ((c .before .before .before .before .loop) .i) noEcb) (omega arith)))
+returns c =
+    let b = c .before .before .before .before in
+    let a = b .before .args in
+    let l = b .loop in
+    sym (l .inv .2 ∙ waiter-past (a .t2 .places) (a .t1 .ecbs) (l .i) (omega arith) (omega arith))
 
 sub-j : tie.Need-sub-j Inv-loop μ-loop
 sub-j c = omega arith
@@ -51,42 +60,44 @@ in-ecb-wait-requires : tie.Need-in-ecb-wait-requires Inv-loop μ-loop
 in-ecb-wait-requires c κs = search needs
 
 returns-2 : tie.Need-returns-2 Inv-loop μ-loop
-returns-2 c = sym (sym (waiters-each ((c .before .before .before .before .before .before .before .before .args) .t2 .places) ((c .before .before .before .before .before .before .before .before .args) .t1 .ecbs)) ∙ (c .before .before .before .before .before .before .before .loop) .inv .3 ∙ rest-fails (waiterGood ((c .before .before .before .before .before .before .before .before .args) .t2 .places)) ((c .before .before .before .before .before .before .before .before .args) .t1 .ecbs) ((c .before .before .before .before .before .before .before .loop) .i) noEcb (omega arith) (waiter-at ((c .before .before .before .before .before .before .before .before .args) .t2 .places) (getD ((c .before .before .before .before .before .before .before .before .args) .t1 .ecbs) ((c .before .before .before .before .before .before .before .loop) .i) noEcb) false ((c .before .before .before .before .if1) .taken) (sym ((c .before .in-ecb-wait) .ensures) ∙ not-true _ ((c .if3) .taken))))
+returns-2 c =
+    let k = c .before .before .before .before in
+    let b = k .before .before .before in
+    let a = b .before .args in
+    let l = b .loop in
+    let e = sym (c .before .in-ecb-wait .ensures) ∙ not-true _ (c .if3 .taken) in
+    sym (l .inv .2 ∙ waiter-at (a .t2 .places) (a .t1 .ecbs) (l .i) (omega arith) _ (k .if1 .taken) e)
 
 loop-less : tie.Need-loop-less Inv-loop μ-loop
 loop-less c = omega arith
 
 loop-again : tie.Need-loop-again Inv-loop μ-loop
-loop-again c = (omega arith, omega arith, omega arith, (c .before .before .before .before .before .before .before .loop) .inv .3 ∙ rest-goes (waiterGood ((c .before .before .before .before .before .before .before .before .args) .t2 .places)) ((c .before .before .before .before .before .before .before .before .args) .t1 .ecbs) ((c .before .before .before .before .before .before .before .loop) .i) noEcb (omega arith) (waiter-at ((c .before .before .before .before .before .before .before .before .args) .t2 .places) (getD ((c .before .before .before .before .before .before .before .before .args) .t1 .ecbs) ((c .before .before .before .before .before .before .before .loop) .i) noEcb) true ((c .before .before .before .before .if1) .taken) (sym ((c .before .in-ecb-wait) .ensures) ∙ not-false _ ((c .if3) .left))))
+loop-again c =
+    let k = c .before .before .before .before in
+    let b = k .before .before .before in
+    let a = b .before .args in
+    let l = b .loop in
+    let e = sym (c .before .in-ecb-wait .ensures) ∙ not-false _ (c .if3 .left) in
+    let w = waiter-at (a .t2 .places) (a .t1 .ecbs) (l .i) (omega arith) _ (k .if1 .taken) e in
+    (l .inv .0, l .inv .1, l .inv .2 ∙ w)
 
 loop-less-2 : tie.Need-loop-less-2 Inv-loop μ-loop
 loop-less-2 c = omega arith
 
 loop-again-2 : tie.Need-loop-again-2 Inv-loop μ-loop
-loop-again-2 c = (omega arith, omega arith, omega arith, (c .before .before .before .loop) .inv .3 ∙ rest-goes (waiterGood ((c .before .before .before .before .args) .t2 .places)) ((c .before .before .before .before .args) .t1 .ecbs) ((c .before .before .before .loop) .i) noEcb (omega arith) (waiter-none ((c .before .before .before .before .args) .t2 .places) (getD ((c .before .before .before .before .args) .t1 .ecbs) ((c .before .before .before .loop) .i) noEcb) (omega arith)))
+loop-again-2 c =
+    let b = c .before .before .before in
+    let a = b .before .args in
+    let l = b .loop in
+    let w = waiter-none (a .t2 .places) (a .t1 .ecbs) (l .i) (omega arith) (omega arith) in
+    (l .inv .0, l .inv .1, l .inv .2 ∙ w)
 
 returns-3 : tie.Need-returns-3 Inv-loop μ-loop
-returns-3 c = sym (sym (waiters-each ((c .before .before .args) .t2 .places) ((c .before .before .args) .t1 .ecbs)) ∙ (c .before .loop) .inv .3 ∙ rest-end (waiterGood ((c .before .before .args) .t2 .places)) ((c .before .before .args) .t1 .ecbs) ((c .before .loop) .i) (omega arith))
+returns-3 c =
+    let l = c .before .loop in
+    sym (l .inv .2 ∙ rest-end _ (c .before .before .args .t1 .ecbs) (l .i) (omega arith))
 
 pub waiters-good-spec : {M : Type 1} → statement M
 waiters-good-spec =
-    tie.close
-    (tie.spec
-    Inv-loop
-    μ-loop
-    loop-holds
-    mul-x
-    element-copy-out-x
-    add-i
-    returns
-    sub-j
-    cast-j
-    mul-t
-    element-copy-out-t
-    in-ecb-wait-requires
-    returns-2
-    loop-less
-    loop-again
-    loop-less-2
-    loop-again-2
-    returns-3)
+    tie.close (tie.spec Inv-loop μ-loop loop-holds mul-x element-copy-out-x add-i returns sub-j cast-j mul-t
+    element-copy-out-t in-ecb-wait-requires returns-2 loop-less loop-again loop-less-2 loop-again-2 returns-3)

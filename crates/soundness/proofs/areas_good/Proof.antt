@@ -1,3 +1,5 @@
+-- The answers of the five tests on the areas, joined as the rules join them.
+use Rattle.rules.specs.Sound.{soundAreas}
 use borrow.Author.Needs.{needs}
 use Rattle.soundness.proofs.areas_good.Statement.{statement}
 use Rattle.soundness.proofs.areas_good.Tie as tie
@@ -18,15 +20,10 @@ areas-apart-requires : tie.Need-areas-apart-requires
 areas-apart-requires c κs = search needs
 
 returns : tie.Need-returns
-returns c = rw ((c .before .before .before .before .areas-fit) .ensures, (c .before .before .before .shapes-good) .ensures, (c .before .before .owners-good) .ensures, (c .before .areas-rise) .ensures, (c .areas-apart) .ensures)
+unfolding soundAreas
+returns c = cc
 
 pub areas-good-spec : {M : Type 1} → statement M
 areas-good-spec =
-    tie.close
-    (tie.spec
-    areas-fit-requires
-    shapes-good-requires
-    owners-good-requires
-    areas-rise-requires
-    areas-apart-requires
-    returns)
+    tie.close (tie.spec areas-fit-requires shapes-good-requires owners-good-requires areas-rise-requires
+    areas-apart-requires returns)

@@ -1,3 +1,5 @@
+-- The answers of the three tests on the ECBs, joined as the rules join them.
+use Rattle.rules.specs.Sound.{soundEcbs}
 use borrow.Author.Needs.{needs}
 use Rattle.soundness.proofs.ecbs_good.Statement.{statement}
 use Rattle.soundness.proofs.ecbs_good.Tie as tie
@@ -12,7 +14,8 @@ words-good-requires : tie.Need-words-good-requires
 words-good-requires c κs = search needs
 
 returns : tie.Need-returns
-returns c = rw ((c .before .before .waiters-good) .ensures, (c .before .needs-good) .ensures, (c .words-good) .ensures)
+unfolding soundEcbs
+returns c = cc
 
 pub ecbs-good-spec : {M : Type 1} → statement M
 ecbs-good-spec =

@@ -1,4 +1,5 @@
-use Rattle.soundness.specs.Rules.{overRules}
+-- The answers of the tests for empty tables, joined as the rules join them for a step that is over.
+use Rattle.rules.specs.Sound.{overGood}
 use borrow.Author.Needs.{needs}
 use Rattle.soundness.proofs.over_good.Statement.{statement}
 use Rattle.soundness.proofs.over_good.Tie as tie
@@ -22,17 +23,10 @@ no-area-requires : tie.Need-no-area-requires
 no-area-requires c κs = search needs
 
 returns : tie.Need-returns
-unfolding overRules
-returns c = rw ((c .before .before .before .before .before .sizes-good) .ensures, (c .before .before .before .before .code-good) .ensures, (c .before .before .before .all-zero) .ensures, (c .before .before .no-entry) .ensures, (c .before .all-zero2) .ensures, (c .no-area) .ensures)
+unfolding overGood
+returns c = cc
 
 pub over-good-spec : {M : Type 1} → statement M
 over-good-spec =
-    tie.close
-    (tie.spec
-    sizes-good-requires
-    code-good-requires
-    all-zero-requires
-    no-entry-requires
-    all-zero-requires-2
-    no-area-requires
-    returns)
+    tie.close (tie.spec sizes-good-requires code-good-requires all-zero-requires no-entry-requires all-zero-requires-2
+    no-area-requires returns)

@@ -1,3 +1,5 @@
+-- The answers of the five tests on the queue, joined as the rules join them.
+use Rattle.rules.specs.Sound.{soundQueue}
 use borrow.Author.Needs.{needs}
 use Rattle.soundness.proofs.queue_good.Statement.{statement}
 use Rattle.soundness.proofs.queue_good.Tie as tie
@@ -18,15 +20,10 @@ waits-good-requires : tie.Need-waits-good-requires
 waits-good-requires c κs = search needs
 
 returns : tie.Need-returns
-returns c = rw ((c .before .before .before .before .queue-fits) .ensures, (c .before .before .before .entries-live) .ensures, (c .before .before .entries-once) .ensures, (c .before .entry-names-good) .ensures, (c .waits-good) .ensures)
+unfolding soundQueue
+returns c = cc
 
 pub queue-good-spec : {M : Type 1} → statement M
 queue-good-spec =
-    tie.close
-    (tie.spec
-    queue-fits-requires
-    entries-live-requires
-    entries-once-requires
-    entry-names-good-requires
-    waits-good-requires
-    returns)
+    tie.close (tie.spec queue-fits-requires entries-live-requires entries-once-requires entry-names-good-requires
+    waits-good-requires returns)

@@ -1,4 +1,5 @@
-use Rattle.soundness.specs.Rules.{runningRules}
+-- The answers of the tests by table, joined as the rules join them for a step that runs.
+use Rattle.rules.specs.Sound.{runningGood}
 use borrow.Author.Needs.{needs}
 use Rattle.soundness.proofs.running_good.Statement.{statement}
 use Rattle.soundness.proofs.running_good.Tie as tie
@@ -19,16 +20,10 @@ areas-good-requires : tie.Need-areas-good-requires
 areas-good-requires c κs = search needs
 
 returns : tie.Need-returns
-unfolding runningRules
-returns c = rw ((c .before .before .before .before .sizes-good) .ensures, (c .before .before .before .tasks-good) .ensures, (c .before .before .queue-good) .ensures, (c .before .ecbs-good) .ensures, (c .areas-good) .ensures)
+unfolding runningGood
+returns c = cc
 
 pub running-good-spec : {M : Type 1} → statement M
 running-good-spec =
-    tie.close
-    (tie.spec
-    sizes-good-requires
-    tasks-good-requires
-    queue-good-requires
-    ecbs-good-requires
-    areas-good-requires
-    returns)
+    tie.close (tie.spec sizes-good-requires tasks-good-requires queue-good-requires ecbs-good-requires
+    areas-good-requires returns)

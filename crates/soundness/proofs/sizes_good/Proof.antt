@@ -1,3 +1,5 @@
+-- The answers of the two tests of length, joined as the rules join them.
+use Rattle.rules.specs.Sound.{sizesGood}
 use borrow.Author.Needs.{needs}
 use Rattle.soundness.proofs.sizes_good.Statement.{statement}
 use Rattle.soundness.proofs.sizes_good.Tie as tie
@@ -9,7 +11,8 @@ ecbs-fit-requires : tie.Need-ecbs-fit-requires
 ecbs-fit-requires c κs = search needs
 
 returns : tie.Need-returns
-returns c = rw ((c .before .tasks-fit) .ensures, (c .ecbs-fit) .ensures)
+unfolding sizesGood
+returns c = cc
 
 pub sizes-good-spec : {M : Type 1} → statement M
 sizes-good-spec = tie.close (tie.spec tasks-fit-requires ecbs-fit-requires returns)

@@ -1,3 +1,5 @@
+-- The answers of the six tests on the task table, joined as the rules join them.
+use Rattle.rules.specs.Sound.{soundTasks}
 use borrow.Author.Needs.{needs}
 use Rattle.soundness.proofs.tasks_good.Statement.{statement}
 use Rattle.soundness.proofs.tasks_good.Tie as tie
@@ -21,16 +23,10 @@ free-places-good-requires : tie.Need-free-places-good-requires
 free-places-good-requires c κs = search needs
 
 returns : tie.Need-returns
-returns c = rw ((c .before .before .before .before .before .job-step-good) .ensures, (c .before .before .before .before .mothers-good) .ensures, (c .before .before .before .priorities-good) .ensures, (c .before .before .task-ecbs-good) .ensures, (c .before .ended-tasks-good) .ensures, (c .free-places-good) .ensures)
+unfolding soundTasks
+returns c = cc
 
 pub tasks-good-spec : {M : Type 1} → statement M
 tasks-good-spec =
-    tie.close
-    (tie.spec
-    job-step-good-requires
-    mothers-good-requires
-    priorities-good-requires
-    task-ecbs-good-requires
-    ended-tasks-good-requires
-    free-places-good-requires
-    returns)
+    tie.close (tie.spec job-step-good-requires mothers-good-requires priorities-good-requires task-ecbs-good-requires
+    ended-tasks-good-requires free-places-good-requires returns)

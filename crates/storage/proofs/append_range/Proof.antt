@@ -1,3 +1,4 @@
+-- What r is extended by is what q is extended by from place k on (invariant); areas left to append fall (measure).
 use Prim.Native.Nat.{_+_, _≤_, _-_}
 use mathlib.Core.Path.{_≡_, refl, sym, _∙_}
 use native.Mathlib.Omega.{arith}
@@ -6,19 +7,23 @@ use Rattle.kinds.specs.Areas.{noArea}
 use lib.ListN.{getD, length, length-set}
 use lib.Seq.{slice}
 use Rattle.lists.specs.Arrays.{mapped-length}
+use Rattle.kinds.specs.Limits.{mostAreas}
 use Rattle.storage.specs.Changes.{extended}
 use Rattle.storage.proofs.Growing.{extended-end, extended-on}
 use Rattle.storage.proofs.append_range.Statement.{statement}
 use Rattle.storage.proofs.append_range.Tie as tie
 
 abbrev Inv-loop : tie.InvT-loop
-Inv-loop i n s q₀ k₀ q k = (k ≤ n) × (n ≤ 128) × (length (s .areas) ≡ 128) × (q .count + (n - k) ≤ 128) × (length (q .areas) ≡ 128) × (extended q₀ (slice i n (s .areas)) ≡ extended q (slice k n (s .areas)))
+Inv-loop i n s q₀ k₀ q k =
+    (k ≤ n) × (n ≤ mostAreas) × (length (s .areas) ≡ mostAreas) × (q .count + (n - k) ≤ mostAreas)
+    × (length (q .areas) ≡ mostAreas) × (extended q₀ (slice i n (s .areas)) ≡ extended q (slice k n (s .areas)))
 
 abbrev μ-loop : tie.MeasureT-loop
 μ-loop i n s q₀ k₀ q k = n - k
 
 loop-holds : tie.Need-loop-holds Inv-loop μ-loop
-loop-holds c = (omega arith, omega arith, search (needs, mapped-length), omega arith, search (needs, mapped-length), refl)
+loop-holds c =
+    (omega arith, omega arith, search (needs, mapped-length), omega arith, search (needs, mapped-length), refl)
 
 mul-x : tie.Need-mul-x Inv-loop μ-loop
 mul-x c = omega arith
@@ -61,17 +66,5 @@ returns c =
 
 pub append-range-spec : {M : Type 1} → statement M
 append-range-spec =
-    tie.close
-    (tie.spec
-    Inv-loop
-    μ-loop
-    loop-holds
-    mul-x
-    element-copy-out-x
-    mul-x-2
-    element-set-from-x
-    add-q
-    add-k
-    loop-less
-    loop-again
-    returns)
+    tie.close (tie.spec Inv-loop μ-loop loop-holds mul-x element-copy-out-x mul-x-2 element-set-from-x add-q add-k
+    loop-less loop-again returns)

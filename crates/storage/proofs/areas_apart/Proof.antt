@@ -1,3 +1,5 @@
+-- The answer is that of the areas from i on, and of x against
+-- those from j on (invariants); what is left falls (measures).
 use Prim.Native.Nat.{_+_, _≤_, _-_}
 use mathlib.Core.Path.{_≡_, refl, sym, _∙_}
 use mathlib.Core.Bool.{_&&_}
@@ -11,17 +13,24 @@ use Rattle.lists.specs.Arrays.{mapped-length}
 use Rattle.rules.specs.Storage.{apart}
 use Rattle.rules.specs.SoundAreas.{areasApart}
 use Rattle.lists.specs.Pairs.{pairs-end, pairs-next, inner-fails, inner-goes, inner-end}
+use Rattle.kinds.specs.Limits.{mostAreas}
+use Rattle.kinds.specs.Areas.{noArea}
 use Rattle.storage.proofs.areas_apart.Statement.{statement}
 use Rattle.storage.proofs.areas_apart.Tie as tie
 
 abbrev Inv-loop2 : tie.InvT-loop2
-Inv-loop2 s n i x j₀ j = (i ≤ n) × (n ≤ 128) × (length (s .areas) ≡ 128) × (j ≤ n) × (pairwise apart (take n (s .areas)) ≡ (every (apart x) (slice j n (s .areas)) && pairwise apart (slice i n (s .areas))))
+Inv-loop2 s n i x j₀ j =
+    (i ≤ n) × (n ≤ mostAreas) × (length (s .areas) ≡ mostAreas) × (j ≤ n)
+    × (pairwise apart (take n (s .areas))
+    ≡ (every (apart x) (slice j n (s .areas)) && pairwise apart (slice i n (s .areas))))
 
 abbrev μ-loop2 : tie.MeasureT-loop2
 μ-loop2 s n i x j₀ j = n - j
 
 abbrev Inv-loop : tie.InvT-loop
-Inv-loop s n i₀ i = (i ≤ n) × (n ≤ 128) × (length (s .areas) ≡ 128) × (pairwise apart (take n (s .areas)) ≡ pairwise apart (slice i n (s .areas)))
+Inv-loop s n i₀ i =
+    (i ≤ n) × (n ≤ mostAreas) × (length (s .areas) ≡ mostAreas)
+    × (pairwise apart (take n (s .areas)) ≡ pairwise apart (slice i n (s .areas)))
 
 abbrev μ-loop : tie.MeasureT-loop
 μ-loop s n i₀ i = n - i
@@ -42,7 +51,8 @@ loop2-holds : tie.Need-loop2-holds Inv-loop2 μ-loop2 Inv-loop μ-loop
 loop2-holds c =
     let a = c .before .before .before .args in
     let l = c .before .before .loop in
-    (omega arith, omega arith, omega arith, omega arith, l .inv .3 ∙ pairs-next apart (l .i) (a .t1 .count) (a .t1 .areas) _ (omega arith) (omega arith))
+    let e = l .inv .3 ∙ pairs-next apart (l .i) (a .t1 .count) (a .t1 .areas) noArea (omega arith) (omega arith) in
+    (omega arith, omega arith, omega arith, omega arith, e)
 
 loop-less : tie.Need-loop-less Inv-loop2 μ-loop2 Inv-loop μ-loop
 loop-less c = omega arith
@@ -52,7 +62,8 @@ loop-again c =
     let a = c .before .before .before .before .before .args in
     let l = c .before .before .before .before .loop in
     let m = c .before .loop2 in
-    (omega arith, omega arith, omega arith, m .inv .4 ∙ inner-end apart _ (l .i + 1) (m .j) (a .t1 .count) (a .t1 .areas) (omega arith))
+    let e = m .inv .4 ∙ inner-end apart _ (l .i + 1) (m .j) (a .t1 .count) (a .t1 .areas) (omega arith) in
+    (omega arith, omega arith, omega arith, e)
 
 mul-y : tie.Need-mul-y Inv-loop2 μ-loop2 Inv-loop μ-loop
 mul-y c = omega arith
@@ -66,10 +77,13 @@ apart-requires c κs = search needs
 returns : tie.Need-returns Inv-loop2 μ-loop2 Inv-loop μ-loop
 unfolding areasApart
 returns c =
-    let a = c .before .before .before .before .before .before .before .before .args in
-    let l = c .before .before .before .before .before .before .before .loop in
-    let m = c .before .before .before .before .loop2 in
-    sym (m .inv .4 ∙ inner-fails apart _ (l .i + 1) (m .j) (a .t1 .count) (a .t1 .areas) _ (omega arith) (omega arith) (sym (c .before .apart .ensures) ∙ not-true _ (c .if1 .taken)))
+    let t = c .before .before .before .before in
+    let a = t .before .before .before .before .args in
+    let l = t .before .before .before .loop in
+    let m = t .loop2 in
+    sym (m .inv .4
+    ∙ inner-fails apart _ (l .i + 1) (m .j) (a .t1 .count) (a .t1 .areas) _ (omega arith) (omega arith)
+    (sym (c .before .apart .ensures) ∙ not-true _ (c .if1 .taken)))
 
 add-j : tie.Need-add-j Inv-loop2 μ-loop2 Inv-loop μ-loop
 add-j c = omega arith
@@ -79,10 +93,14 @@ loop2-less c = omega arith
 
 loop2-again : tie.Need-loop2-again Inv-loop2 μ-loop2 Inv-loop μ-loop
 loop2-again c =
-    let a = c .before .before .before .before .before .before .before .before .args in
-    let l = c .before .before .before .before .before .before .before .loop in
-    let m = c .before .before .before .before .loop2 in
-    (omega arith, omega arith, omega arith, omega arith, m .inv .4 ∙ inner-goes apart _ (l .i + 1) (m .j) (a .t1 .count) (a .t1 .areas) _ (omega arith) (omega arith) (sym (c .before .apart .ensures) ∙ not-false _ (c .if1 .left)))
+    let t = c .before .before .before .before in
+    let a = t .before .before .before .before .args in
+    let l = t .before .before .before .loop in
+    let m = t .loop2 in
+    let e =
+    m .inv .4 ∙ inner-goes apart _ (l .i + 1) (m .j) (a .t1 .count) (a .t1 .areas) _ (omega arith) (omega arith)
+    (sym (c .before .apart .ensures) ∙ not-false _ (c .if1 .left)) in
+    (omega arith, omega arith, omega arith, omega arith, e)
 
 returns-2 : tie.Need-returns-2 Inv-loop2 μ-loop2 Inv-loop μ-loop
 unfolding areasApart
@@ -93,24 +111,5 @@ returns-2 c =
 
 pub areas-apart-spec : {M : Type 1} → statement M
 areas-apart-spec =
-    tie.close
-    (tie.spec
-    Inv-loop2
-    μ-loop2
-    Inv-loop
-    μ-loop
-    loop-holds
-    mul-x
-    element-copy-out-x
-    add-i
-    loop2-holds
-    loop-less
-    loop-again
-    mul-y
-    element-copy-out-y
-    apart-requires
-    returns
-    add-j
-    loop2-less
-    loop2-again
-    returns-2)
+    tie.close (tie.spec Inv-loop2 μ-loop2 Inv-loop μ-loop loop-holds mul-x element-copy-out-x add-i loop2-holds
+    loop-less loop-again mul-y element-copy-out-y apart-requires returns add-j loop2-less loop2-again returns-2)

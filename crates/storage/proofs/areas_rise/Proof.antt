@@ -1,3 +1,4 @@
+-- The answer is that of the areas from i - 1 on (invariant); places left to look at fall (measure).
 use Prim.Native.Nat.{_≤_, _<_, _-_}
 use mathlib.Core.Path.{_≡_, refl, sym, _∙_}
 use native.Mathlib.Omega.{arith}
@@ -9,12 +10,15 @@ use Rattle.lists.specs.Lists.{pairwise}
 use Rattle.lists.specs.Arrays.{mapped-length}
 use Rattle.rules.specs.SoundAreas.{areasRise}
 use Rattle.lists.specs.Pairs.{pairs-last, neighbours-fail, neighbours-go}
+use Rattle.kinds.specs.Limits.{mostAreas}
 use Rattle.laws.specs.Areas.{rises, rises-chain}
 use Rattle.storage.proofs.areas_rise.Statement.{statement}
 use Rattle.storage.proofs.areas_rise.Tie as tie
 
 abbrev Inv-loop : tie.InvT-loop
-Inv-loop s n i₀ i = (0 < i) × (n ≤ 128) × (length (s .areas) ≡ 128) × (pairwise rises (take n (s .areas)) ≡ pairwise rises (slice (i - 1) n (s .areas)))
+Inv-loop s n i₀ i =
+    (0 < i) × (n ≤ mostAreas) × (length (s .areas) ≡ mostAreas)
+    × (pairwise rises (take n (s .areas)) ≡ pairwise rises (slice (i - 1) n (s .areas)))
 
 abbrev μ-loop : tie.MeasureT-loop
 μ-loop s n i₀ i = n - i
@@ -40,9 +44,12 @@ element-copy-out-y c = omega arith
 returns : tie.Need-returns Inv-loop μ-loop
 unfolding areasRise
 returns c =
-    let a = c .before .before .before .before .before .before .before .args in
-    let l = c .before .before .before .before .before .before .loop in
-    sym (l .inv .3 ∙ neighbours-fail rises (l .i) (a .t1 .count) (a .t1 .areas) _ (omega arith) (omega arith) (omega arith) (le-ltb _ _ (c .if1 .taken)))
+    let t = c .before .before .before .before .before in
+    let a = t .before .before .args in
+    let l = t .before .loop in
+    sym (l .inv .3
+    ∙ neighbours-fail rises (l .i) (a .t1 .count) (a .t1 .areas) _ (omega arith) (omega arith) (omega arith)
+    (le-ltb _ _ (c .if1 .taken)))
 
 add-i : tie.Need-add-i Inv-loop μ-loop
 add-i c = omega arith
@@ -52,9 +59,13 @@ loop-less c = omega arith
 
 loop-again : tie.Need-loop-again Inv-loop μ-loop
 loop-again c =
-    let a = c .before .before .before .before .before .before .before .args in
-    let l = c .before .before .before .before .before .before .loop in
-    (omega arith, omega arith, omega arith, l .inv .3 ∙ neighbours-go rises (l .i) (a .t1 .count) (a .t1 .areas) _ (omega arith) (omega arith) (omega arith) rises-chain (lt-ltb _ _ (c .if1 .left)))
+    let t = c .before .before .before .before .before in
+    let a = t .before .before .args in
+    let l = t .before .loop in
+    let e =
+    l .inv .3 ∙ neighbours-go rises (l .i) (a .t1 .count) (a .t1 .areas) _ (omega arith) (omega arith)
+    (omega arith) rises-chain (lt-ltb _ _ (c .if1 .left)) in
+    (omega arith, omega arith, omega arith, e)
 
 returns-2 : tie.Need-returns-2 Inv-loop μ-loop
 unfolding areasRise
@@ -65,18 +76,5 @@ returns-2 c =
 
 pub areas-rise-spec : {M : Type 1} → statement M
 areas-rise-spec =
-    tie.close
-    (tie.spec
-    Inv-loop
-    μ-loop
-    loop-holds
-    sub-x
-    mul-x
-    element-copy-out-x
-    mul-y
-    element-copy-out-y
-    returns
-    add-i
-    loop-less
-    loop-again
-    returns-2)
+    tie.close (tie.spec Inv-loop μ-loop loop-holds sub-x mul-x element-copy-out-x mul-y element-copy-out-y returns
+    add-i loop-less loop-again returns-2)

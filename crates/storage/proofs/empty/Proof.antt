@@ -1,3 +1,4 @@
+-- The zero area's contract makes every place an unused one.
 use borrow.Author.Needs.{needs}
 use Rattle.lists.specs.Tables.{padded}
 use Rattle.storage.proofs.empty.Statement.{statement}

@@ -1,24 +1,25 @@
+-- The answer is that of the areas from i on (invariant); places left to look at fall (measure).
 use Prim.Native.Nat.{_≤_, _-_}
-use mathlib.Core.Path.{_≡_, refl, sym, _∙_}
+use mathlib.Core.Path.{_≡_}
 use native.Mathlib.Omega.{arith}
 use borrow.Author.Needs.{needs}
-use lib.ListN.{length, take}
-use lib.Seq.{slice}
-use Rattle.lists.specs.Lists.{some}
+use lib.ListN.{length}
+use Rattle.lists.specs.Loops.{Any, any-start, any-found, any-goes-on, any-over}
 use Rattle.lists.specs.Arrays.{mapped-length}
-use Rattle.lists.specs.Every.{some-here, some-later, some-end}
+use Rattle.kinds.specs.Limits.{mostAreas}
 use Rattle.rules.specs.Storage.{sameArea}
 use Rattle.storage.proofs.has_area.Statement.{statement}
 use Rattle.storage.proofs.has_area.Tie as tie
 
 abbrev Inv-loop : tie.InvT-loop
-Inv-loop a s n i₀ i = (i ≤ n) × (n ≤ 128) × (length (s .areas) ≡ 128) × (some (sameArea a) (take n (s .areas)) ≡ some (sameArea a) (slice i n (s .areas)))
+Inv-loop a s n i₀ i =
+    (i ≤ n) × (n ≤ mostAreas) × (length (s .areas) ≡ mostAreas) × Any (sameArea a) (s .areas) i n
 
 abbrev μ-loop : tie.MeasureT-loop
 μ-loop a s n i₀ i = n - i
 
 loop-holds : tie.Need-loop-holds Inv-loop μ-loop
-loop-holds c = (omega arith, omega arith, search (needs, mapped-length), refl)
+loop-holds c = (omega arith, omega arith, search (needs, mapped-length), any-start)
 
 mul-x : tie.Need-mul-x Inv-loop μ-loop
 mul-x c = omega arith
@@ -31,9 +32,8 @@ same-area-requires c κs = search needs
 
 returns : tie.Need-returns Inv-loop μ-loop
 returns c =
-    let a = c .before .before .before .before .before .args in
-    let l = c .before .before .before .before .loop in
-    sym (l .inv .3 ∙ some-here (sameArea (a .a)) (l .i) (a .t1 .count) (a .t1 .areas) _ (omega arith) (omega arith) (sym (c .before .same-area .ensures) ∙ c .if1 .taken))
+    let v = c .before .before .before .before .loop .inv .3 in
+    any-found v (omega arith) (omega arith) _ (c .before .same-area .ensures) (c .if1 .taken)
 
 add-i : tie.Need-add-i Inv-loop μ-loop
 add-i c = omega arith
@@ -43,28 +43,14 @@ loop-less c = omega arith
 
 loop-again : tie.Need-loop-again Inv-loop μ-loop
 loop-again c =
-    let a = c .before .before .before .before .before .args in
-    let l = c .before .before .before .before .loop in
-    (omega arith, omega arith, omega arith, l .inv .3 ∙ some-later (sameArea (a .a)) (l .i) (a .t1 .count) (a .t1 .areas) _ (omega arith) (omega arith) (sym (c .before .same-area .ensures) ∙ c .if1 .left))
+    let v = c .before .before .before .before .loop .inv .3 in
+    let e = any-goes-on v (omega arith) (omega arith) _ (c .before .same-area .ensures) (c .if1 .left) in
+    (omega arith, omega arith, omega arith, e)
 
 returns-2 : tie.Need-returns-2 Inv-loop μ-loop
-returns-2 c =
-    let a = c .before .before .args in
-    let l = c .before .loop in
-    sym (l .inv .3 ∙ some-end (sameArea (a .a)) (l .i) (a .t1 .count) (a .t1 .areas) (omega arith))
+returns-2 c = any-over (c .before .loop .inv .3) (omega arith)
 
 pub has-area-spec : {M : Type 1} → statement M
 has-area-spec =
-    tie.close
-    (tie.spec
-    Inv-loop
-    μ-loop
-    loop-holds
-    mul-x
-    element-copy-out-x
-    same-area-requires
-    returns
-    add-i
-    loop-less
-    loop-again
-    returns-2)
+    tie.close (tie.spec Inv-loop μ-loop loop-holds mul-x element-copy-out-x same-area-requires returns add-i loop-less
+    loop-again returns-2)

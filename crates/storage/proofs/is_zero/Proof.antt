@@ -1,3 +1,4 @@
+-- Cites the contracts of the zero area and of the comparison.
 use mathlib.Core.Path.{ap, _∙_}
 use borrow.Author.Needs.{needs}
 use Rattle.rules.specs.Storage.{sameArea}

@@ -1,19 +1,19 @@
+-- The first i codes are those of the first i names, the rest 0 (invariant); names left to look at fall (measure).
 use Prim.Native.Nat.{_≤_, _-_}
 use mathlib.Core.Path.{_≡_}
 use lib.ListN.{length}
+use native.Mathlib.Omega.{arith}
+use borrow.Author.Needs.{needs}
 use Rattle.lists.specs.Arrays.{mapped-length}
 use Rattle.kinds.specs.Limits.{longestList}
-use Rattle.rules.specs.Names.{Ask}
-use Rattle.rules.specs.Deq.{deqCode}
-use Rattle.queue.specs.Queues.{live}
-use Rattle.asks.proofs.Coded.{CodedTo, no-codes, code-next, codes-are, deqAt, deq-each, deq-codes-are}
-use borrow.Author.Needs.{needs}
-use native.Mathlib.Omega.{arith}
+use Rattle.queue.specs.Queues.{entriesIn}
+use Rattle.asks.proofs.Coded.{CodedTo, no-codes, code-next, deqAt, deq-codes-are}
 use Rattle.asks.proofs.codes.deq_codes.Statement.{statement}
 use Rattle.asks.proofs.codes.deq_codes.Tie as tie
 
 abbrev Inv-loop : tie.InvT-loop
-Inv-loop ret has n r₀ i₀ r i = (i ≤ n) × (n ≤ longestList) × (length (has .of) ≡ longestList) × CodedTo (deqAt ret has) i (r .bytes)
+Inv-loop ret has n r₀ i₀ r i =
+    (i ≤ n) × (n ≤ longestList) × (length (has .of) ≡ longestList) × CodedTo (deqAt ret has) i (r .bytes)
 
 abbrev μ-loop : tie.MeasureT-loop
 μ-loop ret has n r₀ i₀ r i = n - i
@@ -34,7 +34,7 @@ deq-code-requires : tie.Need-deq-code-requires Inv-loop μ-loop
 deq-code-requires c κs = search needs
 
 element-write-r : tie.Need-element-write-r Inv-loop μ-loop
-element-write-r c = omega (arith, (c .before .before .before .loop) .inv .3 .long)
+element-write-r c = omega (arith, c .before .before .before .loop .inv .3 .long)
 
 add-i : tie.Need-add-i Inv-loop μ-loop
 add-i c = omega arith
@@ -43,29 +43,21 @@ loop-less : tie.Need-loop-less Inv-loop μ-loop
 loop-less c = omega arith
 
 loop-again : tie.Need-loop-again Inv-loop μ-loop
-loop-again c = (omega arith, omega arith, omega arith, code-next _ ((c .before .before .before .loop) .i) ((c .before .before .before .loop) .r .bytes) _ (omega arith) ((c .deq-code) .ensures) ((c .before .before .before .loop) .inv .3))
+loop-again c =
+    let l = c .before .before .before .loop in
+    let v = code-next _ (l .i) (l .r .bytes) _ (omega arith) (c .deq-code .ensures) (l .inv .3) in
+    (omega arith, omega arith, omega arith, v)
 
 returns : tie.Need-returns Inv-loop μ-loop
 returns c =
-    let h : length ((c .before .before .before .before .args) .l .names) ≡ longestList = search (needs, mapped-length) in
-    deq-codes-are ((c .before .before .before .before .args) .ret) (live ((c .before .before .before .before .args) .q)) ((c .before .before .before .before .args) .caller .0) ((c .before .before .before .before .args) .l) _
-    (codes-are _ (λ (a : Ask). deqCode ((c .before .before .before .before .args) .ret) (live ((c .before .before .before .before .args) .q)) ((c .before .before .before .before .args) .caller .0) (a .name)) ((c .before .before .before .before .args) .l) ((c .before .loop) .i) _ (omega arith) (omega arith) h
-    (deq-each ((c .before .before .before .before .args) .ret) (live ((c .before .before .before .before .args) .q)) ((c .before .before .before .before .args) .caller .0) ((c .before .before .before .before .args) .l) _ ((c .before .before .before .entered) .ensures) (omega arith))
-    ((c .before .loop) .inv .3))
+    let b = c .before .before .before in
+    let a = b .before .args in
+    let h : length (a .l .names) ≡ longestList = search (needs, mapped-length) in
+    let l = c .before .loop in
+    deq-codes-are (entriesIn (a .q)) (a .caller .0) (a .l) (l .i) _ (omega arith) (omega arith) (b .before .pre .1)
+    _ (b .entered .ensures) (a .ret) (l .inv .3)
 
 pub deq-codes-spec : {M : Type 1} → statement M
 deq-codes-spec =
-    tie.close
-    (tie.spec
-    Inv-loop
-    μ-loop
-    entered-requires
-    cast-n
-    loop-holds
-    element-copy-out-h
-    deq-code-requires
-    element-write-r
-    add-i
-    loop-less
-    loop-again
-    returns)
+    tie.close (tie.spec Inv-loop μ-loop entered-requires cast-n loop-holds element-copy-out-h deq-code-requires
+    element-write-r add-i loop-less loop-again returns)

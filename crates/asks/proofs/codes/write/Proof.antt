@@ -1,3 +1,4 @@
+-- The area has the first i codes at the front and is else as it was (invariant); codes left to write fall (measure).
 use Prim.Native.Nat.{ℕ, _≤_, _-_}
 use mathlib.Core.Path.{_≡_, refl, ap, _∙_}
 use mathlib.Core.List.{List, _++_}
@@ -11,7 +12,9 @@ use Rattle.asks.proofs.codes.write.Statement.{statement}
 use Rattle.asks.proofs.codes.write.Tie as tie
 
 abbrev Inv-loop : tie.InvT-loop
-Inv-loop n area₀ k count i₀ area i = (i ≤ n) × (n ≤ longestList) × (n ≤ length area₀) × (length (k .bytes) ≡ longestList) × (length area ≡ length area₀) × (area ≡ take i (k .bytes) ++ drop i area₀)
+Inv-loop n area₀ k count i₀ area i =
+    (i ≤ n) × (n ≤ longestList) × (n ≤ length area₀) × (length (k .bytes) ≡ longestList)
+    × (length area ≡ length area₀) × (area ≡ take i (k .bytes) ++ drop i area₀)
 
 abbrev μ-loop : tie.MeasureT-loop
 μ-loop n area₀ k count i₀ area i = n - i
@@ -32,32 +35,28 @@ loop-less : tie.Need-loop-less Inv-loop μ-loop
 loop-less c = omega arith
 
 loop-again : tie.Need-loop-again Inv-loop μ-loop
-loop-again c = (
-  omega arith,
-  omega arith,
-  omega arith,
-  omega arith,
-  length-set ((c .before .before .loop) .area) ((c .before .before .loop) .i) _ ∙ (c .before .before .loop) .inv .4,
-  ap (λ (m : List ℕ). set m ((c .before .before .loop) .i) (getD ((c .before .before .before .args) .t1 .bytes) ((c .before .before .loop) .i) 0)) ((c .before .before .loop) .inv .5) ∙ copy-next ((c .before .before .before .args) .t1 .bytes) ((c .before .before .before .args) .area .now) ((c .before .before .loop) .i) 0 (omega arith) (omega arith),
-)
+loop-again c =
+    let l = c .before .before .loop in
+    let a = c .before .before .before .args in
+    let e = copy-next (a .t1 .bytes) (a .area .now) (l .i) 0 (omega arith) (omega arith) in (
+      omega arith,
+      omega arith,
+      omega arith,
+      omega arith,
+      length-set (l .area) (l .i) _ ∙ l .inv .4,
+      ap (λ (m : List ℕ). set m (l .i) (getD (a .t1 .bytes) (l .i) 0)) (l .inv .5) ∙ e,
+    )
 
 same-length : tie.Need-same-length Inv-loop μ-loop
 same-length c = omega arith
 
 returns : tie.Need-returns Inv-loop μ-loop
-returns c = (c .before .loop) .inv .5 ∙ written-all ((c .before .before .args) .t1 .bytes) ((c .before .before .args) .area .now) ((c .before .loop) .i) ((c .before .before .args) .n) (omega arith) (omega arith)
+returns c =
+    let l = c .before .loop in
+    let a = c .before .before .args in
+    l .inv .5 ∙ written-all (a .t1 .bytes) (a .area .now) (l .i) (a .n) (omega arith) (omega arith)
 
 pub write-spec : {M : Type 1} → statement M
 write-spec =
-    tie.close
-    (tie.spec
-    Inv-loop
-    μ-loop
-    loop-holds
-    element-copy-out-b
-    slice-write-area
-    add-i
-    loop-less
-    loop-again
-    same-length
-    returns)
+    tie.close (tie.spec Inv-loop μ-loop loop-holds element-copy-out-b slice-write-area add-i loop-less loop-again
+    same-length returns)

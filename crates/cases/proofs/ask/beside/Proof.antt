@@ -1,13 +1,10 @@
+-- The tables that come back are those of `serve`, whose contract is cited.
 use mathlib.Core.Path.{ap}
 use Rattle.rules.specs.Steps.{Served}
 use Rattle.services.specs.declared.Tables.{Tables}
 use borrow.Author.Needs.{needs}
 use Rattle.cases.proofs.ask.beside.Statement.{statement}
 use Rattle.cases.proofs.ask.beside.Tie as tie
-use Rattle.cases.proofs.ask.beside.Reads as reads
-use Rattle.cases.proofs.ask.beside.Lts as lts
-use Rattle.cases.proofs.show.answer.Reads as answer-reads
-use Rattle.services.proofs.Tables.serve.Reads as serve-reads
 
 slice-aggregate-serve : tie.Need-slice-aggregate-serve
 slice-aggregate-serve c = search needs

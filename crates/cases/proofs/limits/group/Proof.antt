@@ -1,21 +1,19 @@
+-- i is within the list, which keeps its length (invariant); names left to write fall (measure).
 use Prim.Native.Nat.{_≤_, _-_}
 use mathlib.Core.Path.{_≡_}
 use lib.ListN.{length, length-set}
 use Rattle.lists.specs.Arrays.{mapped-length}
 use borrow.Author.Needs.{needs}
 use native.Mathlib.Omega.{arith}
+use Rattle.kinds.specs.Limits.{longestList}
 use Rattle.cases.proofs.limits.group.Statement.{statement}
 use Rattle.cases.proofs.limits.group.Tie as tie
-use Rattle.cases.proofs.limits.group.Reads as reads
-use Rattle.cases.proofs.limits.group.Lts as lts
-use Rattle.cases.proofs.ask.name.Reads as name-reads
-use Rattle.cases.proofs.ask.one.Reads as one-reads
 
 abbrev Inv-loop : tie.InvT-loop
-Inv-loop number count l₀ i₀ l i = (i ≤ 16) × (length (l .names) ≡ 16)
+Inv-loop number count l₀ i₀ l i = (i ≤ longestList) × (length (l .names) ≡ longestList)
 
 abbrev μ-loop : tie.MeasureT-loop
-μ-loop number count l₀ i₀ l i = 16 - i
+μ-loop number count l₀ i₀ l i = longestList - i
 
 name-requires : tie.Need-name-requires Inv-loop μ-loop
 name-requires c κs = search needs
@@ -52,18 +50,5 @@ returns c = search needs
 
 pub group-spec : {M : Type 1} → statement M
 group-spec =
-    tie.close
-    (tie.spec
-    Inv-loop
-    μ-loop
-    name-requires
-    one-requires
-    loop-holds
-    cast-name
-    name-requires-2
-    mul-w
-    element-set-from-w
-    add-i
-    loop-less
-    loop-again
-    returns)
+    tie.close (tie.spec Inv-loop μ-loop name-requires one-requires loop-holds cast-name name-requires-2 mul-w
+    element-set-from-w add-i loop-less loop-again returns)

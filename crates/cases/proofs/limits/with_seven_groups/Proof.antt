@@ -1,18 +1,16 @@
-use Prim.Native.Nat.{_≤_, _-_}
+-- k is at most the last group's number (invariant); groups left to ask for fall (measure).
+use Prim.Native.Nat.{_≤_, _-_, _/_}
 use borrow.Author.Needs.{needs}
 use native.Mathlib.Omega.{arith}
+use Rattle.kinds.specs.Limits.{mostEntries, longestList}
 use Rattle.cases.proofs.limits.with_seven_groups.Statement.{statement}
 use Rattle.cases.proofs.limits.with_seven_groups.Tie as tie
-use Rattle.cases.proofs.limits.with_seven_groups.Reads as reads
-use Rattle.cases.proofs.limits.with_seven_groups.Lts as lts
-use Rattle.cases.proofs.limits.enq.Reads as enq-reads
-use Rattle.cases.proofs.limits.group.Reads as group-reads
 
 abbrev Inv-loop : tie.InvT-loop
-Inv-loop all₀ k₀ t5 all k = k ≤ 8
+Inv-loop all₀ k₀ t5 all k = k ≤ mostEntries / longestList
 
 abbrev μ-loop : tie.MeasureT-loop
-μ-loop all₀ k₀ t5 all k = 8 - k
+μ-loop all₀ k₀ t5 all k = mostEntries / longestList - k
 
 loop-holds : tie.Need-loop-holds Inv-loop μ-loop
 loop-holds c = omega arith
@@ -40,15 +38,5 @@ returns c = search needs
 
 pub with-seven-groups-spec : {M : Type 1} → statement M
 with-seven-groups-spec =
-    tie.close
-    (tie.spec
-    Inv-loop
-    μ-loop
-    loop-holds
-    slice-aggregate-enq
-    group-requires
-    enq-requires
-    add-k
-    loop-less
-    loop-again
-    returns)
+    tie.close (tie.spec Inv-loop μ-loop loop-holds slice-aggregate-enq group-requires enq-requires add-k loop-less
+    loop-again returns)

@@ -1,20 +1,19 @@
+-- i is a place of the storage or its end, and it has all of its places (invariant); places left fall (measure).
 use Prim.Native.Nat.{_≤_, _-_}
 use mathlib.Core.Path.{_≡_}
 use lib.ListN.{length}
 use Rattle.lists.specs.Arrays.{mapped-length}
 use borrow.Author.Needs.{needs}
 use native.Mathlib.Omega.{arith}
+use Rattle.kinds.specs.Limits.{mostAreas}
 use Rattle.cases.proofs.show.areas.Statement.{statement}
 use Rattle.cases.proofs.show.areas.Tie as tie
-use Rattle.cases.proofs.show.areas.Reads as reads
-use Rattle.cases.proofs.show.areas.Lts as lts
-use Rattle.cases.proofs.show.area.Reads as area-reads
 
 abbrev Inv-loop : tie.InvT-loop
-Inv-loop text s i₀ i = (i ≤ 128) × (length (s .areas) ≡ 128)
+Inv-loop text s i₀ i = (i ≤ mostAreas) × (length (s .areas) ≡ mostAreas)
 
 abbrev μ-loop : tie.MeasureT-loop
-μ-loop text s i₀ i = 128 - i
+μ-loop text s i₀ i = mostAreas - i
 
 loop-holds : tie.Need-loop-holds Inv-loop μ-loop
 loop-holds c = (omega arith, search (needs, mapped-length))
@@ -42,15 +41,5 @@ returns c = search needs
 
 pub areas-spec : {M : Type 1} → statement M
 areas-spec =
-    tie.close
-    (tie.spec
-    Inv-loop
-    μ-loop
-    loop-holds
-    mul-area
-    element-copy-out-area
-    area-requires
-    add-i
-    loop-less
-    loop-again
-    returns)
+    tie.close (tie.spec Inv-loop μ-loop loop-holds mul-area element-copy-out-area area-requires add-i loop-less
+    loop-again returns)

@@ -1,17 +1,16 @@
+-- j is among the first n, and the queue has all of its places (invariant); entries left to look at fall (measure).
 use Prim.Native.Nat.{_≤_, _-_}
 use mathlib.Core.Path.{_≡_}
 use lib.ListN.{length}
 use Rattle.lists.specs.Arrays.{mapped-length}
 use borrow.Author.Needs.{needs}
 use native.Mathlib.Omega.{arith}
+use Rattle.kinds.specs.Limits.{mostEntries}
 use Rattle.cases.proofs.show.barred.Statement.{statement}
 use Rattle.cases.proofs.show.barred.Tie as tie
-use Rattle.cases.proofs.show.barred.Reads as reads
-use Rattle.cases.proofs.show.barred.Lts as lts
-use Rattle.queue.proofs.bars.Reads as bars-reads
 
 abbrev Inv-loop : tie.InvT-loop
-Inv-loop n e q j₀ j = (j ≤ n) × (length (q .slots) ≡ 128)
+Inv-loop n e q j₀ j = (j ≤ n) × (length (q .slots) ≡ mostEntries)
 
 abbrev μ-loop : tie.MeasureT-loop
 μ-loop n e q j₀ j = n - j
@@ -45,16 +44,5 @@ returns-2 c = search needs
 
 pub barred-spec : {M : Type 1} → statement M
 barred-spec =
-    tie.close
-    (tie.spec
-    Inv-loop
-    μ-loop
-    loop-holds
-    mul-x
-    element-copy-out-x
-    bars-requires
-    returns
-    add-j
-    loop-less
-    loop-again
-    returns-2)
+    tie.close (tie.spec Inv-loop μ-loop loop-holds mul-x element-copy-out-x bars-requires returns add-j loop-less
+    loop-again returns-2)

@@ -1,21 +1,19 @@
+-- i is a place of the queue or its end, and the queue has all of its places (invariant); places left fall (measure).
 use Prim.Native.Nat.{_≤_, _-_}
 use mathlib.Core.Path.{_≡_}
 use lib.ListN.{length}
 use Rattle.lists.specs.Arrays.{mapped-length}
 use borrow.Author.Needs.{needs}
 use native.Mathlib.Omega.{arith}
+use Rattle.kinds.specs.Limits.{mostEntries}
 use Rattle.cases.proofs.show.entries.Statement.{statement}
 use Rattle.cases.proofs.show.entries.Tie as tie
-use Rattle.cases.proofs.show.entries.Reads as reads
-use Rattle.cases.proofs.show.entries.Lts as lts
-use Rattle.cases.proofs.show.barred.Reads as barred-reads
-use Rattle.cases.proofs.show.entry.Reads as entry-reads
 
 abbrev Inv-loop : tie.InvT-loop
-Inv-loop text q i₀ i = (i ≤ 128) × (length (q .slots) ≡ 128)
+Inv-loop text q i₀ i = (i ≤ mostEntries) × (length (q .slots) ≡ mostEntries)
 
 abbrev μ-loop : tie.MeasureT-loop
-μ-loop text q i₀ i = 128 - i
+μ-loop text q i₀ i = mostEntries - i
 
 loop-holds : tie.Need-loop-holds Inv-loop μ-loop
 loop-holds c = (omega arith, search (needs, mapped-length))
@@ -46,16 +44,5 @@ returns c = search needs
 
 pub entries-spec : {M : Type 1} → statement M
 entries-spec =
-    tie.close
-    (tie.spec
-    Inv-loop
-    μ-loop
-    loop-holds
-    mul-e
-    element-copy-out-e
-    barred-requires
-    entry-requires
-    add-i
-    loop-less
-    loop-again
-    returns)
+    tie.close (tie.spec Inv-loop μ-loop loop-holds mul-e element-copy-out-e barred-requires entry-requires add-i
+    loop-less loop-again returns)

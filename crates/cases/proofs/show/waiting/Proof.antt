@@ -1,18 +1,16 @@
-use Prim.Native.Nat.{_≤_, _-_}
+-- n is at most one past the highest task's number (invariant); numbers left to look at fall (measure).
+use Prim.Native.Nat.{_≤_, _+_, _-_}
 use borrow.Author.Needs.{needs}
 use native.Mathlib.Omega.{arith}
+use Rattle.kinds.specs.Limits.{highestTask}
 use Rattle.cases.proofs.show.waiting.Statement.{statement}
 use Rattle.cases.proofs.show.waiting.Tie as tie
-use Rattle.cases.proofs.show.waiting.Reads as reads
-use Rattle.cases.proofs.show.waiting.Lts as lts
-use Rattle.cases.proofs.show.waiter.Reads as waiter-reads
-use Rattle.cases.proofs.show.words.Reads as words-reads
 
 abbrev Inv-loop : tie.InvT-loop
-Inv-loop text f n₀ t5 n = n ≤ 33
+Inv-loop text f n₀ t5 n = n ≤ highestTask + 1
 
 abbrev μ-loop : tie.MeasureT-loop
-μ-loop text f n₀ t5 n = 33 - n
+μ-loop text f n₀ t5 n = highestTask + 1 - n
 
 words-requires : tie.Need-words-requires Inv-loop μ-loop
 words-requires c κs = search needs
@@ -49,18 +47,5 @@ returns c = search needs
 
 pub waiting-spec : {M : Type 1} → statement M
 waiting-spec =
-    tie.close
-    (tie.spec
-    Inv-loop
-    μ-loop
-    words-requires
-    slice-aggregate-words
-    words-requires-2
-    loop-holds
-    waiter-requires
-    add-n
-    loop-less
-    loop-again
-    slice-aggregate-words-2
-    words-requires-3
-    returns)
+    tie.close (tie.spec Inv-loop μ-loop words-requires slice-aggregate-words words-requires-2 loop-holds
+    waiter-requires add-n loop-less loop-again slice-aggregate-words-2 words-requires-3 returns)

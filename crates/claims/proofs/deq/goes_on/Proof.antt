@@ -1,17 +1,20 @@
-use Rattle.names.specs.Named.{namesIn}
-use Rattle.names.proofs.Listed.{good-count}
-use Rattle.queue.specs.Queues.{live}
-use Rattle.claims.proofs.Coding.{deq-go}
-use Rattle.claims.proofs.Verdicts.{deq-done}
+-- What going on says lets the codes be written; the three calls give the fields of the answer.
 use borrow.Author.Needs.{needs}
+use Rattle.names.proofs.Listed.{good-count}
+use Rattle.claims.proofs.Coding.{deq-go}
 use Rattle.claims.proofs.deq.goes_on.Statement.{statement}
 use Rattle.claims.proofs.deq.goes_on.Tie as tie
 
 write-codes-requires : tie.Need-write-codes-requires
-write-codes-requires c κs = ((c .before .before .pre) .0 .0 .room, (c .before .before .pre) .1)
+write-codes-requires c κs =
+    let p = c .before .before .pre in
+    let g = deq-go _ _ _ _ _ (p .1) in
+    ((p .0 .0 .room, good-count _ (g .0)), g .1)
 
 released-requires : tie.Need-released-requires
-released-requires c κs = ((c .before .before .before .before .before .pre) .0, good-count (namesIn ((c .before .before .before .before .before .args) .names)) (deq-go (live ((c .before .before .before .before .before .args) .q)) ((c .before .before .before .before .before .args) .caller) ((c .before .before .before .before .before .args) .ret) (namesIn ((c .before .before .before .before .before .args) .names)) ((c .before .before .before .before .before .args) .codes .now) ((c .before .before .before .before .before .pre) .1) .0))
+released-requires c κs =
+    let p = c .before .before .before .before .before .pre in
+    (p .0, good-count _ (deq-go _ _ _ _ _ (p .1) .0))
 
 reply-to-requires : tie.Need-reply-to-requires
 reply-to-requires c κs = search needs
@@ -20,9 +23,9 @@ same-length : tie.Need-same-length
 same-length c = search needs
 
 returns : tie.Need-returns
-returns c = (deq-done ((c .before .before .before .before .before .before .before .args) .ret) ((c .before .before .before .before .before .before .before .args) .q) ((c .before .before .before .before .before .before .before .args) .f) ((c .before .before .before .before .before .before .before .args) .caller .0) (namesIn ((c .before .before .before .before .before .before .before .args) .names)) _ _ _ ((c .before .before .before .before .write-codes) .ensures .0) ((c .reply-to) .ensures) ((c .before .released) .ensures), (c .before .before .before .before .write-codes) .ensures .1)
+returns c =
+    let e = c .before .before .before .before .write-codes .ensures in
+    (rw (c .reply-to .ensures, e .0, c .before .released .ensures), e .1)
 
 pub goes-on-spec : {M : Type 1} → statement M
-goes-on-spec =
-    tie.close
-    (tie.spec write-codes-requires released-requires reply-to-requires same-length returns)
+goes-on-spec = tie.close (tie.spec write-codes-requires released-requires reply-to-requires same-length returns)

@@ -1,10 +1,11 @@
+-- All flags are set exactly where every name is available.
 use mathlib.Core.Path.{_≡_, _∙_}
 use lib.ListN.{length}
 use native.Mathlib.Omega.{arith}
+use borrow.Author.Needs.{needs}
 use Rattle.lists.specs.Arrays.{mapped-length}
 use Rattle.kinds.specs.Limits.{longestList}
 use Rattle.flags.proofs.Flagged.{every-flag}
-use borrow.Author.Needs.{needs}
 use Rattle.claims.proofs.enq.all_available.Statement.{statement}
 use Rattle.claims.proofs.enq.all_available.Tie as tie
 
@@ -16,8 +17,9 @@ all-set-requires c κs = search needs
 
 returns : tie.Need-returns
 returns c =
-    let h : length ((c .before .before .args) .names .names) ≡ longestList = search (needs, mapped-length) in
-    (c .all-set) .ensures ∙ every-flag _ ((c .before .before .args) .names) _ ((c .before .available) .ensures) (omega arith)
+    let l = c .before .before .args .names in
+    let h : length (l .names) ≡ longestList = search (needs, mapped-length) in
+    c .all-set .ensures ∙ every-flag _ l _ (c .before .available .ensures) (omega arith)
 
 pub all-available-spec : {M : Type 1} → statement M
 all-available-spec = tie.close (tie.spec available-requires all-set-requires returns)

@@ -1,34 +1,43 @@
+-- What going on says lets the codes be written; whether they were all 0 decides between the two answers.
 use mathlib.Core.Path.{sym, _∙_}
 use borrow.Author.Tests.{not-true, not-false}
-use Rattle.names.specs.Named.{namesIn}
-use Rattle.queue.specs.Queues.{live}
-use Rattle.claims.proofs.Coding.{enq-go}
-use Rattle.claims.proofs.Verdicts.{enq-four, enq-zero}
 use borrow.Author.Needs.{needs}
+use Rattle.lists.specs.Pick.{pick}
+use Rattle.names.proofs.Listed.{good-count}
+use Rattle.claims.proofs.Coding.{enq-go}
 use Rattle.claims.proofs.enq.goes_on.Statement.{statement}
 use Rattle.claims.proofs.enq.goes_on.Tie as tie
 
 write-codes-requires : tie.Need-write-codes-requires
-write-codes-requires c κs = ((c .before .before .pre) .0 .0 .room, (c .before .before .pre) .1)
+write-codes-requires c κs =
+    let p = c .before .before .pre in
+    let g = enq-go _ _ _ _ _ (p .1) in
+    ((p .0 .0 .room, good-count _ (g .0)), g .1 .0)
 
 same-length : tie.Need-same-length
 same-length c = search needs
 
 returns : tie.Need-returns
-returns c = (enq-four ((c .before .before .before .before .before .before .args) .ret) ((c .before .before .before .before .before .before .args) .q) ((c .before .before .before .before .before .before .args) .f) ((c .before .before .before .before .before .before .args) .caller .0) (namesIn ((c .before .before .before .before .before .before .args) .names)) (sym ((c .before .before .before .write-codes) .ensures .0) ∙ not-true _ ((c .if1) .taken)), (c .before .before .before .write-codes) .ensures .1)
+unfolding pick
+returns c =
+    let e = c .before .before .before .write-codes .ensures in
+    (rw (sym (e .0) ∙ not-true _ (c .if1 .taken)), e .1)
 
 change-requires : tie.Need-change-requires
 change-requires c κs =
-    let g = enq-go (live ((c .before .before .before .before .before .before .args) .q)) ((c .before .before .before .before .before .before .args) .caller) ((c .before .before .before .before .before .before .args) .ret) (namesIn ((c .before .before .before .before .before .before .args) .names)) ((c .before .before .before .before .before .before .args) .codes .now) ((c .before .before .before .before .before .before .pre) .1) in
-    ((c .before .before .before .before .before .before .pre) .0, record { good = g .0; room = g .1 .1; zero = sym ((c .before .before .before .write-codes) .ensures .0) ∙ not-false _ ((c .if1) .left) })
+    let k = c .before .before .before in
+    let p = k .before .before .before .pre in
+    let g = enq-go _ _ _ _ _ (p .1) in
+    (p .0, record { good = g .0; room = g .1 .1; zero = sym (k .write-codes .ensures .0) ∙ not-false _ (c .if1 .left) })
 
 same-length-2 : tie.Need-same-length-2
 same-length-2 c = search needs
 
 returns-2 : tie.Need-returns-2
-returns-2 c = (enq-zero ((c .before .before .before .before .before .before .before .args) .ret) ((c .before .before .before .before .before .before .before .args) .q) ((c .before .before .before .before .before .before .before .args) .f) ((c .before .before .before .before .before .before .before .args) .caller .0) (namesIn ((c .before .before .before .before .before .before .before .args) .names)) _ (sym ((c .before .before .before .before .write-codes) .ensures .0) ∙ not-false _ ((c .before .if1) .left)) ((c .change) .ensures), (c .before .before .before .before .write-codes) .ensures .1)
+unfolding pick
+returns-2 c =
+    let e = c .before .before .before .before .write-codes .ensures in
+    (rw (sym (e .0) ∙ not-false _ (c .before .if1 .left), c .change .ensures), e .1)
 
 pub goes-on-spec : {M : Type 1} → statement M
-goes-on-spec =
-    tie.close
-    (tie.spec write-codes-requires same-length returns change-requires same-length-2 returns-2)
+goes-on-spec = tie.close (tie.spec write-codes-requires same-length returns change-requires same-length-2 returns-2)

@@ -1,28 +1,33 @@
-use mathlib.Core.Path.{_≡_, refl, sym, _∙_}
-use Prim.Native.Nat.{_≤_}
+-- The resource waits that the tail makes are the caller's alone, and it waits unless every name was available.
+use mathlib.Core.Path.{_≡_, sym, _∙_}
 use lib.ListN.{length}
 use native.Mathlib.Omega.{arith}
-use Rattle.lists.specs.Arrays.{mapped-length}
-use Rattle.kinds.specs.Limits.{longestList}
-use Rattle.names.specs.Named.{namesIn}
-use Rattle.names.proofs.Listed.{good-count, good-legal}
-use Rattle.queue.specs.Queues.{live}
-use Rattle.claims.proofs.Changes.{counted-room, caller-place, queued-ready, queued-waits}
 use borrow.Author.Needs.{needs}
+use Rattle.lists.specs.Arrays.{mapped-length}
+use Rattle.lists.specs.Pick.{pick}
+use Rattle.kinds.specs.Limits.{longestList}
+use Rattle.names.proofs.Listed.{good-count, good-legal}
+use Rattle.claims.proofs.Changes.{counted-room, caller-place, tail-tasks}
 use Rattle.claims.proofs.enq.queued.Statement.{statement}
 use Rattle.claims.proofs.enq.queued.Tie as tie
 
 with-tail-requires : tie.Need-with-tail-requires
 with-tail-requires c κs =
-    let h : length ((c .args) .names .names) ≡ longestList = search (needs, mapped-length) in
-    let n : (c .args) .names .count ≤ longestList = good-count (namesIn ((c .args) .names)) ((c .pre) .1 .0) in
-    ((c .pre) .0 .0, n, counted-room ((c .args) .q) ((c .args) .names) ((c .pre) .0 .0) (omega arith) ((c .pre) .1 .1), good-legal (namesIn ((c .args) .names)) ((c .pre) .1 .0))
+    let h : length (c .args .names .names) ≡ longestList = search (needs, mapped-length) in
+    let p = c .pre in
+    let n = good-count _ (p .1 .0) in
+    (p .0 .0, n, counted-room _ (c .args .names) (p .0 .0) (omega arith) (p .1 .1), good-legal _ (p .1 .0))
 
 all-available-requires : tie.Need-all-available-requires
-all-available-requires c κs = ((c .before .pre) .0 .0 .room, good-count (namesIn ((c .before .args) .names)) ((c .before .pre) .1 .0))
+all-available-requires c κs = (c .before .pre .0 .0 .room, good-count _ (c .before .pre .1 .0))
 
 returns : tie.Need-returns
-returns c = queued-ready (live ((c .before .before .before .args) .q)) ((c .before .before .before .args) .f .places) ((c .before .before .before .args) .caller) ((c .before .before .before .pre) .0 .1) (namesIn ((c .before .before .before .args) .names)) ((c .before .before .before .pre) .1 .0) _ _ ((c .before .before .with-tail) .ensures) refl (sym ((c .before .all-available) .ensures) ∙ (c .if1) .taken)
+unfolding pick
+returns c =
+    let b = c .before .before in
+    let p = b .before .pre in
+    let t = tail-tasks (p .0 .1) _ (p .1 .0) _ (sym (c .before .all-available .ensures) ∙ c .if1 .taken) in
+    rw (b .with-tail .ensures, t)
 
 at-requires : tie.Need-at-requires
 at-requires c κs = search needs
@@ -31,19 +36,19 @@ with-condition-requires : tie.Need-with-condition-requires
 with-condition-requires c κs = search needs
 
 with-place-requires : tie.Need-with-place-requires
-with-place-requires c κs = caller-place (live ((c .before .before .before .before .before .args) .q)) ((c .before .before .before .before .before .args) .f .places) ((c .before .before .before .before .before .args) .caller) ((c .before .before .before .before .before .pre) .0 .1)
+with-place-requires c κs = caller-place (c .before .before .before .before .before .pre .0 .1)
 
 returns-2 : tie.Need-returns-2
-returns-2 c = queued-waits (live ((c .before .before .before .before .before .before .args) .q)) ((c .before .before .before .before .before .before .args) .f .places) ((c .before .before .before .before .before .before .args) .caller) ((c .before .before .before .before .before .before .pre) .0 .1) (namesIn ((c .before .before .before .before .before .before .args) .names)) ((c .before .before .before .before .before .before .pre) .1 .0) _ _ _ _ ((c .before .before .before .before .before .with-tail) .ensures) (sym ((c .before .before .before .before .all-available) .ensures) ∙ (c .before .before .before .if1) .left) ((c .before .before .at) .ensures) ((c .before .with-condition) .ensures) ((c .with-place) .ensures)
+unfolding pick
+returns-2 c =
+    let d = c .before .before .before in
+    let b = d .before .before in
+    let p = b .before .pre in
+    let t = tail-tasks (p .0 .1) _ (p .1 .0) _ (sym (d .before .all-available .ensures) ∙ d .if1 .left) in
+    let w = c .before in
+    rw (b .with-tail .ensures, c .with-place .ensures, w .with-condition .ensures, w .before .at .ensures, t)
 
 pub queued-spec : {M : Type 1} → statement M
 queued-spec =
-    tie.close
-    (tie.spec
-    with-tail-requires
-    all-available-requires
-    returns
-    at-requires
-    with-condition-requires
-    with-place-requires
-    returns-2)
+    tie.close (tie.spec with-tail-requires all-available-requires returns at-requires with-condition-requires
+    with-place-requires returns-2)

@@ -1,13 +1,8 @@
-use mathlib.Core.Path.{sym, ap, _∙_}
-use borrow.Author.Tests.{not-true, not-false}
-use Rattle.lists.specs.Pick.{pick, pick-true, pick-false}
-use Rattle.kinds.specs.declared.replies.Refusal.the-variants.{OutOfRange}
-use Rattle.rules.specs.Steps.{overStep}
-use Rattle.rules.specs.Ending.{ended}
-use Rattle.rules.specs.Abend.{abendVerdict}
-use Rattle.endings.specs.Wholes.{stepIn, wholeOf}
-use Rattle.endings.proofs.Verdicts.{goes, refuses, abend-out, abend-goes}
+-- Each return cites the contract of the test that led to it, and of the ending that it chose.
 use borrow.Author.Needs.{needs}
+use Rattle.lists.specs.Pick.{pick}
+use Rattle.rules.specs.End.{endGood}
+use Rattle.rules.specs.Abend.{abendVerdict}
 use Rattle.endings.proofs.services.abended.Statement.{statement}
 use Rattle.endings.proofs.services.abended.Tie as tie
 
@@ -18,7 +13,8 @@ settled-as-requires : tie.Need-settled-as-requires
 settled-as-requires c κs = search needs
 
 returns : tie.Need-returns
-returns c = refuses (abendVerdict ((c .before .before .before .args) .code)) (pick ((c .before .before .before .args) .step) (overStep ((c .before .before .before .args) .code)) (ended (stepIn ((c .before .before .before .args) .w)) ((c .before .before .before .args) .caller .0) ((c .before .before .before .args) .code))) ((c .before .before .before .args) .w) _ OutOfRange (abend-out ((c .before .before .before .args) .code) (sym ((c .before .before .code-good) .ensures) ∙ not-true _ ((c .before .if1) .taken))) ((c .settled-as) .ensures)
+unfolding abendVerdict endGood pick
+returns c = rw (← c .before .before .code-good .ensures, c .before .if1 .taken) (c .settled-as .ensures)
 
 over-with-requires : tie.Need-over-with-requires
 over-with-requires c κs = search needs
@@ -27,20 +23,26 @@ settled-as-requires-2 : tie.Need-settled-as-requires-2
 settled-as-requires-2 c κs = search needs
 
 returns-2 : tie.Need-returns-2
+unfolding abendVerdict endGood pick
 returns-2 c =
-    goes (abendVerdict ((c .before .before .before .before .before .args) .code)) (pick ((c .before .before .before .before .before .args) .step) (overStep ((c .before .before .before .before .before .args) .code)) (ended (stepIn ((c .before .before .before .before .before .args) .w)) ((c .before .before .before .before .before .args) .caller .0) ((c .before .before .before .before .before .args) .code))) ((c .before .before .before .before .before .args) .w) _ _ (abend-goes ((c .before .before .before .before .before .args) .code) (sym ((c .before .before .before .before .code-good) .ensures) ∙ not-false _ ((c .before .before .before .if1) .left)))
-    ((c .before .over-with) .ensures ∙ ap wholeOf (sym (pick-true ((c .before .before .before .before .before .args) .step) (overStep ((c .before .before .before .before .before .args) .code)) (ended (stepIn ((c .before .before .before .before .before .args) .w)) ((c .before .before .before .before .before .args) .caller .0) ((c .before .before .before .before .before .args) .code)) ((c .before .before .if2) .taken)))) ((c .settled-as2) .ensures)
+    let b = c .before .before in
+    let r = rw (c .before .over-with .ensures) at (c .settled-as2 .ensures) in
+    rw (← b .before .before .code-good .ensures, b .before .if1 .left, b .if2 .taken) r
 
 ended-requires : tie.Need-ended-requires
-ended-requires c κs = (c .before .before .before .pre)
+ended-requires c κs = c .before .before .before .pre
 
 settled-as-requires-3 : tie.Need-settled-as-requires-3
 settled-as-requires-3 c κs = search needs
 
 returns-3 : tie.Need-returns-3
+unfolding abendVerdict endGood pick
 returns-3 c =
-    goes (abendVerdict ((c .before .before .before .before .before .args) .code)) (pick ((c .before .before .before .before .before .args) .step) (overStep ((c .before .before .before .before .before .args) .code)) (ended (stepIn ((c .before .before .before .before .before .args) .w)) ((c .before .before .before .before .before .args) .caller .0) ((c .before .before .before .before .before .args) .code))) ((c .before .before .before .before .before .args) .w) _ _ (abend-goes ((c .before .before .before .before .before .args) .code) (sym ((c .before .before .before .before .code-good) .ensures) ∙ not-false _ ((c .before .before .before .if1) .left)))
-    ((c .before .ended) .ensures ∙ ap wholeOf (sym (pick-false ((c .before .before .before .before .before .args) .step) (overStep ((c .before .before .before .before .before .args) .code)) (ended (stepIn ((c .before .before .before .before .before .args) .w)) ((c .before .before .before .before .before .args) .caller .0) ((c .before .before .before .before .before .args) .code)) ((c .before .before .if2) .left)))) ((c .settled-as3) .ensures)
+    let b = c .before .before in
+    let r = rw (c .before .ended .ensures) at (c .settled-as3 .ensures) in
+    rw (← b .before .before .code-good .ensures, b .before .if1 .left, b .if2 .left) r
 
 pub abended-spec : {M : Type 1} → statement M
-abended-spec = tie.close (tie.spec code-good-requires settled-as-requires returns over-with-requires settled-as-requires-2 returns-2 ended-requires settled-as-requires-3 returns-3)
+abended-spec =
+    tie.close (tie.spec code-good-requires settled-as-requires returns over-with-requires
+    settled-as-requires-2 returns-2 ended-requires settled-as-requires-3 returns-3)

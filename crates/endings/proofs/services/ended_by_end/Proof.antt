@@ -1,9 +1,7 @@
-use mathlib.Core.Path.{sym, _∙_}
-use Rattle.rules.specs.Ending.{ended}
-use Rattle.rules.specs.End.{endVerdict}
-use Rattle.endings.specs.Wholes.{stepIn}
-use Rattle.endings.proofs.Verdicts.{goes, refuses, fails}
+-- Each arm of the match knows the verdict, and with it the goal is what the last call's contract says.
+use mathlib.Core.Path.{_≡_}
 use borrow.Author.Needs.{needs}
+use Rattle.kinds.specs.declared.replies.Verdict.the-variants.{Go}
 use Rattle.endings.proofs.services.ended_by_end.Statement.{statement}
 use Rattle.endings.proofs.services.ended_by_end.Tie as tie
 
@@ -14,7 +12,7 @@ enum-told : tie.Need-enum-told
 enum-told c = search needs
 
 ended-requires : tie.Need-ended-requires
-ended-requires c κs = (c .before .before .before .before .pre)
+ended-requires c κs = c .before .before .before .before .pre
 
 settled-as-requires : tie.Need-settled-as-requires
 settled-as-requires c κs = search needs
@@ -32,13 +30,22 @@ settled-as-requires-3 : tie.Need-settled-as-requires-3
 settled-as-requires-3 c κs = search needs
 
 returns : tie.Need-returns
-returns c = goes (endVerdict ((c .before .before .before .before .before .before .args) .w .family .places) ((c .before .before .before .before .before .before .args) .caller) ((c .before .before .before .before .before .before .args) .code)) (ended (stepIn ((c .before .before .before .before .before .before .args) .w)) ((c .before .before .before .before .before .before .args) .caller .0) ((c .before .before .before .before .before .before .args) .code)) ((c .before .before .before .before .before .before .args) .w) _ _ (sym ((c .before .before .before .before .end-verdict) .ensures) ∙ search needs) ((c .before .ended) .ensures) ((c .settled-as) .ensures)
+returns c =
+    let v = c .before .before .before .before .end-verdict in
+    let k : v .result ≡ Go = search needs in
+    rw (← v .ensures, k) (rw (c .before .ended .ensures) at (c .settled-as .ensures))
 
 returns-2 : tie.Need-returns-2
-returns-2 c = refuses (endVerdict ((c .before .before .before .before .before .before .args) .w .family .places) ((c .before .before .before .before .before .before .args) .caller) ((c .before .before .before .before .before .before .args) .code)) (ended (stepIn ((c .before .before .before .before .before .before .args) .w)) ((c .before .before .before .before .before .before .args) .caller .0) ((c .before .before .before .before .before .before .args) .code)) ((c .before .before .before .before .before .before .args) .w) _ _ (sym ((c .before .before .before .before .end-verdict) .ensures) ∙ (c .before .before .why) .given .1) ((c .settled-as2) .ensures)
+returns-2 c =
+    let b = c .before .before in
+    rw (← b .before .before .end-verdict .ensures, b .why .given .1) (c .settled-as2 .ensures)
 
 returns-3 : tie.Need-returns-3
-returns-3 c = fails (endVerdict ((c .before .before .before .before .before .before .args) .w .family .places) ((c .before .before .before .before .before .before .args) .caller) ((c .before .before .before .before .before .before .args) .code)) (ended (stepIn ((c .before .before .before .before .before .before .args) .w)) ((c .before .before .before .before .before .before .args) .caller .0) ((c .before .before .before .before .before .before .args) .code)) ((c .before .before .before .before .before .before .args) .w) _ _ (sym ((c .before .before .before .before .end-verdict) .ensures) ∙ (c .before .before .what) .given .1) ((c .settled-as3) .ensures)
+returns-3 c =
+    let b = c .before .before in
+    rw (← b .before .before .end-verdict .ensures, b .what .given .1) (c .settled-as3 .ensures)
 
 pub ended-by-end-spec : {M : Type 1} → statement M
-ended-by-end-spec = tie.close (tie.spec end-verdict-requires enum-told ended-requires settled-as-requires enum-known-why settled-as-requires-2 enum-known-what settled-as-requires-3 returns returns-2 returns-3)
+ended-by-end-spec =
+    tie.close (tie.spec end-verdict-requires enum-told ended-requires settled-as-requires enum-known-why
+    settled-as-requires-2 enum-known-what settled-as-requires-3 returns returns-2 returns-3)

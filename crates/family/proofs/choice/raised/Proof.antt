@@ -1,3 +1,4 @@
+-- Each return cites the tests that led to it.
 use borrow.Author.Needs.{needs}
 use Rattle.lists.specs.Pick.{chosen}
 use Rattle.family.specs.Highest.{raisedTo}

@@ -1,33 +1,35 @@
+-- The first i names have their flags, for name i the first j slots are read (invariants); the rest falls (measures).
 use mathlib.Core.List.{map}
 use mathlib.Core.Bool.{false}
-use Prim.Native.Nat.{_≤_, _<_, _-_}
+use Prim.Native.Nat.{_≤_, _-_}
 use mathlib.Core.Path.{_≡_}
+use native.Mathlib.Nat.{le-antisymm}
 use native.Mathlib.Omega.{arith}
 use borrow.Author.Needs.{needs}
-use borrow.Author.Tests.{ltb-true}
-use lib.Dec.{ltb}
 use lib.ListN.{length}
-use Rattle.lists.specs.Arrays.{mapped-length}
-use Rattle.lists.specs.Bools.{and-left, and-right}
-use Rattle.kinds.specs.Limits.{mostEntries, longestList}
+use Rattle.lists.specs.Arrays.{within, mapped-length}
+use Rattle.kinds.specs.Limits.{longestList}
 use Rattle.rules.specs.Names.{Ask}
 use Rattle.rules.specs.Control.{soleOwner}
 use Rattle.names.specs.Named.{resourceOf, askOf}
-use Rattle.queue.specs.Queues.{live}
+use Rattle.queue.specs.Queues.{entriesIn}
 use Rattle.flags.proofs.Filled.{Filled, none-filled, ask-next}
-use Rattle.flags.proofs.Flagged.{flags-are}
+use Rattle.flags.proofs.Flagged.{flags-are, goes-on}
 use Rattle.flags.proofs.Soles.{ReadTo, read-start, read-next, read-end}
 use Rattle.flags.proofs.lead.sole.Statement.{statement}
 use Rattle.flags.proofs.lead.sole.Tie as tie
 
 abbrev Inv-loop2 : tie.InvT-loop2
-Inv-loop2 caller q l n m r i name s₀ j₀ s j = (j ≤ n) × (n ≤ mostEntries) × (length (q .slots) ≡ mostEntries) × ReadTo (caller .0) (resourceOf name) (q .slots) n j s
+Inv-loop2 caller q l n m r i name s₀ j₀ s j =
+    ReadTo (caller .0) (resourceOf name) (q .slots) n j s × (j ≤ n)
 
 abbrev μ-loop2 : tie.MeasureT-loop2
 μ-loop2 caller q l n m r i name s₀ j₀ s j = n - j
 
 abbrev Inv-loop : tie.InvT-loop
-Inv-loop caller q l n m r₀ i₀ r i = (i ≤ m) × (m ≤ longestList) × (n ≤ mostEntries) × (length (q .slots) ≡ mostEntries) × (length (l .names) ≡ longestList) × Filled false (λ (a : Ask). soleOwner (live q) (caller .0) (a .name)) (map askOf (l .names)) i (r .of)
+Inv-loop caller q l n m r₀ i₀ r i =
+    Filled false (λ (a : Ask). soleOwner (entriesIn q) (caller .0) (a .name)) (map askOf (l .names)) i (r .of)
+    × ((i ≤ m) × (n ≤ length (q .slots)) × (length (l .names) ≡ longestList))
 
 abbrev μ-loop : tie.MeasureT-loop
 μ-loop caller q l n m r₀ i₀ r i = m - i
@@ -36,7 +38,7 @@ cast-m : tie.Need-cast-m Inv-loop2 μ-loop2 Inv-loop μ-loop
 cast-m c = search needs
 
 loop-holds : tie.Need-loop-holds Inv-loop2 μ-loop2 Inv-loop μ-loop
-loop-holds c = (omega arith, omega arith, omega arith, search (needs, mapped-length), search (needs, mapped-length), none-filled _ _ _)
+loop-holds c = (none-filled _ _ _, search (needs, within, mapped-length))
 
 mul-w : tie.Need-mul-w Inv-loop2 μ-loop2 Inv-loop μ-loop
 mul-w c = omega arith
@@ -45,34 +47,31 @@ element-copy-out-w : tie.Need-element-copy-out-w Inv-loop2 μ-loop2 Inv-loop μ-
 element-copy-out-w c = omega arith
 
 loop2-holds : tie.Need-loop2-holds Inv-loop2 μ-loop2 Inv-loop μ-loop
-loop2-holds c = (omega arith, omega arith, omega arith, read-start _ _ _ _)
+loop2-holds c = (read-start _ _ _ _, omega arith)
 
 mul-x : tie.Need-mul-x Inv-loop2 μ-loop2 Inv-loop μ-loop
-mul-x c = let h : (c .before .before .loop2) .j < (c .before .before .before .before .before .before .before .args) .t1 .count = ltb-true ((c .before .before .loop2) .j) ((c .before .before .before .before .before .before .before .args) .t1 .count) (and-left (ltb ((c .before .before .loop2) .j) ((c .before .before .before .before .before .before .before .args) .t1 .count)) ((c .before .before .loop2) .s .going) ((c .if1) .taken)) in omega arith
+mul-x c = omega (arith, goes-on)
 
 element-copy-out-x : tie.Need-element-copy-out-x Inv-loop2 μ-loop2 Inv-loop μ-loop
-element-copy-out-x c = let h : (c .before .before .loop2) .j < (c .before .before .before .before .before .before .before .args) .t1 .count = ltb-true ((c .before .before .loop2) .j) ((c .before .before .before .before .before .before .before .args) .t1 .count) (and-left (ltb ((c .before .before .loop2) .j) ((c .before .before .before .before .before .before .before .args) .t1 .count)) ((c .before .before .loop2) .s .going) ((c .if1) .taken)) in omega arith
+element-copy-out-x c = omega (arith, goes-on)
 
 read-requires : tie.Need-read-requires Inv-loop2 μ-loop2 Inv-loop μ-loop
 read-requires c κs = search needs
 
 add-j : tie.Need-add-j Inv-loop2 μ-loop2 Inv-loop μ-loop
-add-j c = let h : (c .before .before .before .before .loop2) .j < (c .before .before .before .before .before .before .before .before .before .args) .t1 .count = ltb-true ((c .before .before .before .before .loop2) .j) ((c .before .before .before .before .before .before .before .before .before .args) .t1 .count) (and-left (ltb ((c .before .before .before .before .loop2) .j) ((c .before .before .before .before .before .before .before .before .before .args) .t1 .count)) ((c .before .before .before .before .loop2) .s .going) ((c .before .before .if1) .taken)) in omega arith
+add-j c = omega (arith, goes-on)
 
 loop2-less : tie.Need-loop2-less Inv-loop2 μ-loop2 Inv-loop μ-loop
-loop2-less c = let h : (c .before .before .before .before .loop2) .j < (c .before .before .before .before .before .before .before .before .before .args) .t1 .count = ltb-true ((c .before .before .before .before .loop2) .j) ((c .before .before .before .before .before .before .before .before .before .args) .t1 .count) (and-left (ltb ((c .before .before .before .before .loop2) .j) ((c .before .before .before .before .before .before .before .before .before .args) .t1 .count)) ((c .before .before .before .before .loop2) .s .going) ((c .before .before .if1) .taken)) in omega arith
+loop2-less c = omega (arith, goes-on)
 
 loop2-again : tie.Need-loop2-again Inv-loop2 μ-loop2 Inv-loop μ-loop
 loop2-again c =
-    let h : (c .before .before .before .before .loop2) .j < (c .before .before .before .before .before .before .before .before .before .args) .t1 .count = ltb-true ((c .before .before .before .before .loop2) .j) ((c .before .before .before .before .before .before .before .before .before .args) .t1 .count) (and-left (ltb ((c .before .before .before .before .loop2) .j) ((c .before .before .before .before .before .before .before .before .before .args) .t1 .count)) ((c .before .before .before .before .loop2) .s .going) ((c .before .before .if1) .taken)) in (
-      omega arith,
-      omega arith,
-      omega arith,
-      read-next _ _ ((c .before .before .before .before .before .before .before .before .before .args) .t1 .slots) ((c .before .before .before .before .before .before .before .before .before .args) .t1 .count) ((c .before .before .before .before .loop2) .j) _ ((c .before .before .before .before .loop2) .s) _ h (omega arith) (and-right (ltb ((c .before .before .before .before .loop2) .j) ((c .before .before .before .before .before .before .before .before .before .args) .t1 .count)) ((c .before .before .before .before .loop2) .s .going) ((c .before .before .if1) .taken)) ((c .read) .ensures) ((c .before .before .before .before .loop2) .inv .3),
-    )
+    let l = c .before .before .before .before .loop2 in
+    let t = c .before .before .if1 .taken in
+    (read-next _ _ _ _ _ _ _ _ t (omega arith) (c .read .ensures) (l .inv .0), omega (arith, goes-on))
 
 element-write-r : tie.Need-element-write-r Inv-loop2 μ-loop2 Inv-loop μ-loop
-element-write-r c = omega (arith, (c .before .before .before .before .before .before .loop) .inv .5 .long)
+element-write-r c = omega arith
 
 add-i : tie.Need-add-i Inv-loop2 μ-loop2 Inv-loop μ-loop
 add-i c = omega arith
@@ -81,41 +80,17 @@ loop-less : tie.Need-loop-less Inv-loop2 μ-loop2 Inv-loop μ-loop
 loop-less c = omega arith
 
 loop-again : tie.Need-loop-again Inv-loop2 μ-loop2 Inv-loop μ-loop
-loop-again c = (
-  omega arith,
-  omega arith,
-  omega arith,
-  omega arith,
-  omega arith,
-  ask-next false (λ (a : Ask). soleOwner (live ((c .before .before .before .before .before .before .before .args) .t1)) ((c .before .before .before .before .before .before .before .args) .caller .0) (a .name)) ((c .before .before .before .before .before .before .before .args) .t3 .names) ((c .before .before .before .before .before .before .loop) .i) _ ((c .before .before .before .before .before .before .loop) .r .of) ((c .before .before .loop2) .s .sole) (omega arith) (omega arith)
-      (read-end _ _ ((c .before .before .before .before .before .before .before .args) .t1 .slots) ((c .before .before .before .before .before .before .before .args) .t1 .count) ((c .before .before .loop2) .j) ((c .before .before .loop2) .s) (omega arith) ((c .if1) .left) ((c .before .before .loop2) .inv .3))
-      ((c .before .before .before .before .before .before .loop) .inv .5),
-)
+loop-again c =
+    let b = c .before .before in
+    let l = b .loop2 in
+    let o = b .before .before .before .before in
+    let e = read-end _ _ _ _ (l .j) (l .s) (l .inv .1) (c .if1 .left) (l .inv .0) in
+    (ask-next _ _ (o .before .args .t3 .names) _ _ _ _ (omega arith) (omega arith) e (o .loop .inv .0), omega arith)
 
 returns : tie.Need-returns Inv-loop2 μ-loop2 Inv-loop μ-loop
-returns c = flags-are (λ (a : Ask). soleOwner (live ((c .before .before .args) .t1)) ((c .before .before .args) .caller .0) (a .name)) ((c .before .before .args) .t3) ((c .before .loop) .i) _ (omega arith) ((c .before .loop) .inv .5)
+returns c = search (needs, flags-are, le-antisymm)
 
 pub sole-spec : {M : Type 1} → statement M
 sole-spec =
-    tie.close
-    (tie.spec
-    Inv-loop2
-    μ-loop2
-    Inv-loop
-    μ-loop
-    cast-m
-    loop-holds
-    mul-w
-    element-copy-out-w
-    loop2-holds
-    mul-x
-    element-copy-out-x
-    read-requires
-    add-j
-    loop2-less
-    loop2-again
-    element-write-r
-    add-i
-    loop-less
-    loop-again
-    returns)
+    tie.close (tie.spec Inv-loop2 μ-loop2 Inv-loop μ-loop cast-m loop-holds mul-w element-copy-out-w loop2-holds mul-x
+    element-copy-out-x read-requires add-j loop2-less loop2-again element-write-r add-i loop-less loop-again returns)

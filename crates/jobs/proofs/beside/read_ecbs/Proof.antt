@@ -1,20 +1,16 @@
+-- No more ECBs are counted than a line may have (invariant); ECBs that it may still have fall (measure).
 use Prim.Native.Nat.{_≤_, _-_}
 use native.Mathlib.Omega.{arith}
 use borrow.Author.Needs.{needs}
+use Rattle.jobs.specs.Sizes.{mostListed}
 use Rattle.jobs.proofs.beside.read_ecbs.Statement.{statement}
 use Rattle.jobs.proofs.beside.read_ecbs.Tie as tie
-use Rattle.jobs.proofs.beside.read_ecbs.Reads as reads
-use Rattle.jobs.proofs.beside.read_ecbs.Lts as lts
-use Rattle.jobs.proofs.beside.no_ecbs.Reads as no-ecbs-reads
-use Rattle.jobs.proofs.number.byte.Reads as byte-reads
-use Rattle.jobs.proofs.number.read.Reads as read-reads
-use Rattle.jobs.proofs.word.none_at.Reads as none-at-reads
 
 abbrev Inv-loop : tie.InvT-loop
-Inv-loop line at list₀ next₀ count₀ list next count = (count ≤ 20)
+Inv-loop line at list₀ next₀ count₀ list next count = count ≤ mostListed
 
 abbrev μ-loop : tie.MeasureT-loop
-μ-loop line at list₀ next₀ count₀ list next count = 20 - count
+μ-loop line at list₀ next₀ count₀ list next count = mostListed - count
 
 no-ecbs-requires : tie.Need-no-ecbs-requires Inv-loop μ-loop
 no-ecbs-requires c κs = search needs
@@ -60,21 +56,5 @@ returns-3 c = search needs
 
 pub read-ecbs-spec : {M : Type 1} → statement M
 read-ecbs-spec =
-    tie.close
-    (tie.spec
-    Inv-loop
-    μ-loop
-    no-ecbs-requires
-    loop-holds
-    none-at-requires
-    returns
-    read-requires
-    returns-2
-    cast-if4
-    byte-requires
-    cast-t15
-    element-set-from-list
-    add-count
-    loop-less
-    loop-again
-    returns-3)
+    tie.close (tie.spec Inv-loop μ-loop no-ecbs-requires loop-holds none-at-requires returns read-requires returns-2
+    cast-if4 byte-requires cast-t15 element-set-from-list add-count loop-less loop-again returns-3)

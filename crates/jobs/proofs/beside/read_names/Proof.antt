@@ -1,19 +1,16 @@
+-- No more names are counted than a line may have (invariant); names that it may still have fall (measure).
 use Prim.Native.Nat.{_≤_, _-_}
 use native.Mathlib.Omega.{arith}
 use borrow.Author.Needs.{needs}
+use Rattle.jobs.specs.Sizes.{mostListed}
 use Rattle.jobs.proofs.beside.read_names.Statement.{statement}
 use Rattle.jobs.proofs.beside.read_names.Tie as tie
-use Rattle.jobs.proofs.beside.read_names.Reads as reads
-use Rattle.jobs.proofs.beside.read_names.Lts as lts
-use Rattle.jobs.proofs.beside.asked.Reads as asked-reads
-use Rattle.jobs.proofs.beside.no_names.Reads as no-names-reads
-use Rattle.jobs.proofs.word.none_at.Reads as none-at-reads
 
 abbrev Inv-loop : tie.InvT-loop
-Inv-loop line at enq list₀ next₀ count₀ list next count = (count ≤ 20)
+Inv-loop line at marks list₀ next₀ count₀ list next count = count ≤ mostListed
 
 abbrev μ-loop : tie.MeasureT-loop
-μ-loop line at enq list₀ next₀ count₀ list next count = 20 - count
+μ-loop line at marks list₀ next₀ count₀ list next count = mostListed - count
 
 no-names-requires : tie.Need-no-names-requires Inv-loop μ-loop
 no-names-requires c κs = search needs
@@ -59,21 +56,5 @@ returns-3 c = search needs
 
 pub read-names-spec : {M : Type 1} → statement M
 read-names-spec =
-    tie.close
-    (tie.spec
-    Inv-loop
-    μ-loop
-    no-names-requires
-    loop-holds
-    none-at-requires
-    returns
-    asked-requires
-    returns-2
-    cast-if4
-    cast-w
-    mul-w
-    element-set-from-w
-    add-count
-    loop-less
-    loop-again
-    returns-3)
+    tie.close (tie.spec Inv-loop μ-loop no-names-requires loop-holds none-at-requires returns asked-requires returns-2
+    cast-if4 cast-w mul-w element-set-from-w add-count loop-less loop-again returns-3)

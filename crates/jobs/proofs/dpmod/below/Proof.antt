@@ -1,9 +1,8 @@
+-- A number below 32,767 with a minus fits, by minus-fits.
 use borrow.Author.Needs.{needs}
 use Rattle.jobs.proofs.Minus.{minus-fits}
 use Rattle.jobs.proofs.dpmod.below.Statement.{statement}
 use Rattle.jobs.proofs.dpmod.below.Tie as tie
-use Rattle.jobs.proofs.dpmod.below.Reads as reads
-use Rattle.jobs.proofs.dpmod.below.Lts as lts
 
 cast-result : tie.Need-cast-result
 cast-result c = search needs

@@ -1,17 +1,16 @@
+-- i is within the numbers asked for, which have room (invariant); numbers left to read fall (measure).
 use Prim.Native.Nat.{_≤_, _-_}
 use mathlib.Core.Path.{_≡_, refl}
 use native.Mathlib.Omega.{arith}
 use borrow.Author.Needs.{needs}
 use lib.ListN.{length, length-set}
+use Rattle.jobs.specs.Sizes.{mostFields}
 use Rattle.jobs.proofs.fields.read.Statement.{statement}
 use Rattle.jobs.proofs.fields.read.Tie as tie
-use Rattle.jobs.proofs.fields.read.Reads as reads
-use Rattle.jobs.proofs.fields.read.Lts as lts
-use Rattle.jobs.proofs.number.byte.Reads as byte-reads
-use Rattle.jobs.proofs.number.read.Reads as read-reads
 
 abbrev Inv-loop : tie.InvT-loop
-Inv-loop line at count caller good₀ next₀ values₀ i₀ good next values i = (i ≤ count) × (count ≤ 3) × (length values ≡ 3)
+Inv-loop line at count caller good₀ next₀ values₀ i₀ good next values i =
+    (i ≤ count) × (count ≤ mostFields) × (length values ≡ mostFields)
 
 abbrev μ-loop : tie.MeasureT-loop
 μ-loop line at count caller good₀ next₀ values₀ i₀ good next values i = count - i
@@ -48,17 +47,5 @@ returns c = search needs
 
 pub read-spec : {M : Type 1} → statement M
 read-spec =
-    tie.close
-    (tie.spec
-    Inv-loop
-    μ-loop
-    read-requires
-    byte-requires
-    loop-holds
-    read-requires-2
-    mul-values
-    array-write-values
-    add-i
-    loop-less
-    loop-again
-    returns)
+    tie.close (tie.spec Inv-loop μ-loop read-requires byte-requires loop-holds read-requires-2 mul-values
+    array-write-values add-i loop-less loop-again returns)

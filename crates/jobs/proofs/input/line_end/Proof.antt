@@ -1,9 +1,8 @@
+-- i is from `from` to `end` (invariant); bytes left to look at fall (measure).
 use Prim.Native.Nat.{_≤_, _-_}
 use borrow.Author.Needs.{needs}
 use Rattle.jobs.proofs.input.line_end.Statement.{statement}
 use Rattle.jobs.proofs.input.line_end.Tie as tie
-use Rattle.jobs.proofs.input.line_end.Reads as reads
-use Rattle.jobs.proofs.input.line_end.Lts as lts
 
 abbrev Inv-loop : tie.InvT-loop
 Inv-loop block from end i₀ i = (from ≤ i) × (i ≤ end)
@@ -34,14 +33,4 @@ returns-2 c = search needs
 
 pub line-end-spec : {M : Type 1} → statement M
 line-end-spec =
-    tie.close
-    (tie.spec
-    Inv-loop
-    μ-loop
-    loop-holds
-    shared-slice-read-if1
-    returns
-    add-i
-    loop-less
-    loop-again
-    returns-2)
+    tie.close (tie.spec Inv-loop μ-loop loop-holds shared-slice-read-if1 returns add-i loop-less loop-again returns-2)

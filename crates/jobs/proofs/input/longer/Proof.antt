@@ -1,23 +1,18 @@
-use Prim.Native.Nat.{_≤_, _-_}
+-- The block keeps its length, and `end` is within it (invariant); bytes that the line may still have fall (measure).
+use Prim.Native.Nat.{_≤_, _+_, _-_}
 use mathlib.Core.Path.{_≡_}
 use native.Mathlib.Omega.{arith}
 use borrow.Author.Needs.{needs}
 use lib.ListN.{length}
+use Rattle.jobs.specs.Sizes.{blockSize, longestLine}
 use Rattle.jobs.proofs.input.longer.Statement.{statement}
 use Rattle.jobs.proofs.input.longer.Tie as tie
-use Rattle.jobs.proofs.input.longer.Reads as reads
-use Rattle.jobs.proofs.input.longer.Lts as lts
-use Rattle.jobs.proofs.input.cut.Reads as cut-reads
-use Rattle.jobs.proofs.input.filled.Reads as filled-reads
-use Rattle.jobs.proofs.input.last.Reads as last-reads
-use Rattle.jobs.proofs.input.line_end.Reads as line-end-reads
-use Rattle.jobs.proofs.input.rest_of_long.Reads as rest-of-long-reads
 
 abbrev Inv-loop : tie.InvT-loop
-Inv-loop block₀ kept end₀ block end = (length block ≡ 65536) × (length block₀ ≡ 65536) × (end ≤ 65536)
+Inv-loop block₀ kept end₀ block end = (length block ≡ blockSize) × (length block₀ ≡ blockSize) × (end ≤ blockSize)
 
 abbrev μ-loop : tie.MeasureT-loop
-μ-loop block₀ kept end₀ block end = 16384 - end
+μ-loop block₀ kept end₀ block end = longestLine + 1 - end
 
 loop-holds : tie.Need-loop-holds Inv-loop μ-loop
 loop-holds c = omega arith
@@ -78,26 +73,6 @@ returns-4 c = search needs
 
 pub longer-spec : {M : Type 1} → statement M
 longer-spec =
-    tie.close
-    (tie.spec
-    Inv-loop
-    μ-loop
-    loop-holds
-    filled-requires
-    cut-requires
-    same-length
-    returns
-    last-requires
-    same-length-2
-    returns-2
-    add-line-end
-    line-end-requires
-    add-end
-    add-t13
-    same-length-3
-    returns-3
-    loop-less
-    loop-again
-    rest-of-long-requires
-    same-length-4
-    returns-4)
+    tie.close (tie.spec Inv-loop μ-loop loop-holds filled-requires cut-requires same-length returns last-requires
+    same-length-2 returns-2 add-line-end line-end-requires add-end add-t13 same-length-3 returns-3 loop-less loop-again
+    rest-of-long-requires same-length-4 returns-4)

@@ -1,18 +1,14 @@
+-- The block keeps its length (invariant); turns left fall (measure).
 use mathlib.Core.Path.{_≡_}
 use native.Mathlib.Omega.{arith}
 use borrow.Author.Needs.{needs}
 use lib.ListN.{length}
+use Rattle.jobs.specs.Sizes.{blockSize}
 use Rattle.jobs.proofs.input.rest_of_long.Statement.{statement}
 use Rattle.jobs.proofs.input.rest_of_long.Tie as tie
-use Rattle.jobs.proofs.input.rest_of_long.Reads as reads
-use Rattle.jobs.proofs.input.rest_of_long.Lts as lts
-use Rattle.jobs.proofs.input.cut.Reads as cut-reads
-use Rattle.jobs.proofs.input.line_end.Reads as line-end-reads
-use Rattle.jobs.proofs.input.long.Reads as long-reads
-use Rattle.jobs.proofs.input.read_some.Reads as read-some-reads
 
 abbrev Inv-loop : tie.InvT-loop
-Inv-loop block₀ turns₀ block turns = (length block ≡ 65536) × (length block₀ ≡ 65536)
+Inv-loop block₀ turns₀ block turns = (length block ≡ blockSize) × (length block₀ ≡ blockSize)
 
 abbrev μ-loop : tie.MeasureT-loop
 μ-loop block₀ turns₀ block turns = turns
@@ -76,26 +72,6 @@ returns-4 c = search needs
 
 pub rest-of-long-spec : {M : Type 1} → statement M
 rest-of-long-spec =
-    tie.close
-    (tie.spec
-    Inv-loop
-    μ-loop
-    loop-holds
-    read-some-requires
-    cut-requires
-    same-length
-    returns
-    long-requires
-    same-length-2
-    returns-2
-    line-end-requires
-    add-long
-    long-requires-2
-    same-length-3
-    returns-3
-    sub-turns
-    loop-less
-    loop-again
-    long-requires-3
-    same-length-4
-    returns-4)
+    tie.close (tie.spec Inv-loop μ-loop loop-holds read-some-requires cut-requires same-length returns long-requires
+    same-length-2 returns-2 line-end-requires add-long long-requires-2 same-length-3 returns-3 sub-turns loop-less
+    loop-again long-requires-3 same-length-4 returns-4)

@@ -1,3 +1,4 @@
+-- i is from `from` to `end`, and the block keeps its length (invariant); bytes left to move fall (measure).
 use Prim.Native.Nat.{_≤_, _-_}
 use mathlib.Core.Path.{_≡_}
 use native.Mathlib.Omega.{arith}
@@ -5,8 +6,6 @@ use borrow.Author.Needs.{needs}
 use lib.ListN.{length, length-set}
 use Rattle.jobs.proofs.input.to_front.Statement.{statement}
 use Rattle.jobs.proofs.input.to_front.Tie as tie
-use Rattle.jobs.proofs.input.to_front.Reads as reads
-use Rattle.jobs.proofs.input.to_front.Lts as lts
 
 abbrev Inv-loop : tie.InvT-loop
 Inv-loop block₀ from end i₀ block i = (from ≤ i) × (i ≤ end) × (length block ≡ length block₀)
@@ -46,17 +45,5 @@ returns-2 c = search needs
 
 pub to-front-spec : {M : Type 1} → statement M
 to-front-spec =
-    tie.close
-    (tie.spec
-    Inv-loop
-    μ-loop
-    returns
-    loop-holds
-    slice-read-block
-    sub-block
-    slice-write-block
-    add-i
-    loop-less
-    loop-again
-    same-length
-    returns-2)
+    tie.close (tie.spec Inv-loop μ-loop returns loop-holds slice-read-block sub-block slice-write-block add-i loop-less
+    loop-again same-length returns-2)

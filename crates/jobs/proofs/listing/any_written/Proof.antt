@@ -1,11 +1,10 @@
+-- i is within the codes or at their end (invariant); codes left to look at fall (measure).
 use Prim.Native.Nat.{_≤_, _-_}
 use lib.ListN.{length}
 use borrow.Author.Needs.{needs}
 use native.Mathlib.Omega.{arith}
 use Rattle.jobs.proofs.listing.any_written.Statement.{statement}
 use Rattle.jobs.proofs.listing.any_written.Tie as tie
-use Rattle.jobs.proofs.listing.any_written.Reads as reads
-use Rattle.jobs.proofs.listing.any_written.Lts as lts
 
 abbrev Inv-loop : tie.InvT-loop
 Inv-loop codes i₀ i = i ≤ length codes
@@ -36,14 +35,4 @@ returns-2 c = search needs
 
 pub any-written-spec : {M : Type 1} → statement M
 any-written-spec =
-    tie.close
-    (tie.spec
-    Inv-loop
-    μ-loop
-    loop-holds
-    shared-slice-read-if1
-    returns
-    add-i
-    loop-less
-    loop-again
-    returns-2)
+    tie.close (tie.spec Inv-loop μ-loop loop-holds shared-slice-read-if1 returns add-i loop-less loop-again returns-2)

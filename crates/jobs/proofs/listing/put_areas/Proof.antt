@@ -1,19 +1,17 @@
+-- i is a place or the table's end, and a failed write is not forgotten (invariant); places left to list fall (measure).
 use Prim.Native.Nat.{_≤_, _-_}
 use borrow.Author.Needs.{needs}
 use native.Mathlib.Omega.{arith}
 use Rattle.jobs.specs.Places.{Kept}
+use Rattle.kinds.specs.Limits.{mostAreas}
 use Rattle.jobs.proofs.listing.put_areas.Statement.{statement}
 use Rattle.jobs.proofs.listing.put_areas.Tie as tie
-use Rattle.jobs.proofs.listing.put_areas.Reads as reads
-use Rattle.jobs.proofs.listing.put_areas.Lts as lts
-use Rattle.jobs.proofs.area_row.RawArea.of.Reads as of-reads
-use Rattle.jobs.proofs.lines.put_area.Reads as put-area-reads
 
 abbrev Inv-loop : tie.InvT-loop
-Inv-loop out₀ at s k₀ i₀ out k i = (i ≤ 128) × Kept at k
+Inv-loop out₀ at s k₀ i₀ out k i = (i ≤ mostAreas) × Kept at k
 
 abbrev μ-loop : tie.MeasureT-loop
-μ-loop out₀ at s k₀ i₀ out k i = 128 - i
+μ-loop out₀ at s k₀ i₀ out k i = mostAreas - i
 
 loop-holds : tie.Need-loop-holds Inv-loop μ-loop
 loop-holds c = omega arith
@@ -47,17 +45,5 @@ returns c = search needs
 
 pub put-areas-spec : {M : Type 1} → statement M
 put-areas-spec =
-    tie.close
-    (tie.spec
-    Inv-loop
-    μ-loop
-    loop-holds
-    mul-x
-    element-copy-out-x
-    cast-put-area
-    of-requires
-    put-area-requires
-    add-i
-    loop-less
-    loop-again
-    returns)
+    tie.close (tie.spec Inv-loop μ-loop loop-holds mul-x element-copy-out-x cast-put-area of-requires put-area-requires
+    add-i loop-less loop-again returns)

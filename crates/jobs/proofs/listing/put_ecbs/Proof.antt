@@ -1,19 +1,17 @@
+-- i is a place or the table's end, and a failed write is not forgotten (invariant); places left to list fall (measure).
 use Prim.Native.Nat.{_≤_, _-_}
 use borrow.Author.Needs.{needs}
 use native.Mathlib.Omega.{arith}
 use Rattle.jobs.specs.Places.{Kept}
+use Rattle.kinds.specs.Limits.{allEcbs}
 use Rattle.jobs.proofs.listing.put_ecbs.Statement.{statement}
 use Rattle.jobs.proofs.listing.put_ecbs.Tie as tie
-use Rattle.jobs.proofs.listing.put_ecbs.Reads as reads
-use Rattle.jobs.proofs.listing.put_ecbs.Lts as lts
-use Rattle.jobs.proofs.ecb_row.RawEcb.of.Reads as of-reads
-use Rattle.jobs.proofs.lines.put_ecb.Reads as put-ecb-reads
 
 abbrev Inv-loop : tie.InvT-loop
-Inv-loop out₀ at e k₀ i₀ out k i = (i ≤ 64) × Kept at k
+Inv-loop out₀ at e k₀ i₀ out k i = (i ≤ allEcbs) × Kept at k
 
 abbrev μ-loop : tie.MeasureT-loop
-μ-loop out₀ at e k₀ i₀ out k i = 64 - i
+μ-loop out₀ at e k₀ i₀ out k i = allEcbs - i
 
 loop-holds : tie.Need-loop-holds Inv-loop μ-loop
 loop-holds c = omega arith
@@ -47,17 +45,5 @@ returns c = search needs
 
 pub put-ecbs-spec : {M : Type 1} → statement M
 put-ecbs-spec =
-    tie.close
-    (tie.spec
-    Inv-loop
-    μ-loop
-    loop-holds
-    mul-x
-    element-copy-out-x
-    cast-put-ecb
-    of-requires
-    put-ecb-requires
-    add-i
-    loop-less
-    loop-again
-    returns)
+    tie.close (tie.spec Inv-loop μ-loop loop-holds mul-x element-copy-out-x cast-put-ecb of-requires put-ecb-requires
+    add-i loop-less loop-again returns)

@@ -1,19 +1,17 @@
+-- i is a place or the table's end, and a failed write is not forgotten (invariant); places left to list fall (measure).
 use Prim.Native.Nat.{_≤_, _-_}
 use borrow.Author.Needs.{needs}
 use native.Mathlib.Omega.{arith}
 use Rattle.jobs.specs.Places.{Kept}
+use Rattle.kinds.specs.Limits.{mostEntries}
 use Rattle.jobs.proofs.listing.put_entries.Statement.{statement}
 use Rattle.jobs.proofs.listing.put_entries.Tie as tie
-use Rattle.jobs.proofs.listing.put_entries.Reads as reads
-use Rattle.jobs.proofs.listing.put_entries.Lts as lts
-use Rattle.jobs.proofs.entry_row.RawEntry.of.Reads as of-reads
-use Rattle.jobs.proofs.lines.put_entry.Reads as put-entry-reads
 
 abbrev Inv-loop : tie.InvT-loop
-Inv-loop out₀ at q k₀ i₀ out k i = (i ≤ 128) × Kept at k
+Inv-loop out₀ at q k₀ i₀ out k i = (i ≤ mostEntries) × Kept at k
 
 abbrev μ-loop : tie.MeasureT-loop
-μ-loop out₀ at q k₀ i₀ out k i = 128 - i
+μ-loop out₀ at q k₀ i₀ out k i = mostEntries - i
 
 loop-holds : tie.Need-loop-holds Inv-loop μ-loop
 loop-holds c = omega arith
@@ -47,17 +45,5 @@ returns c = search needs
 
 pub put-entries-spec : {M : Type 1} → statement M
 put-entries-spec =
-    tie.close
-    (tie.spec
-    Inv-loop
-    μ-loop
-    loop-holds
-    mul-x
-    element-copy-out-x
-    cast-put-entry
-    of-requires
-    put-entry-requires
-    add-i
-    loop-less
-    loop-again
-    returns)
+    tie.close (tie.spec Inv-loop μ-loop loop-holds mul-x element-copy-out-x cast-put-entry of-requires
+    put-entry-requires add-i loop-less loop-again returns)

@@ -1,19 +1,17 @@
+-- i is a place or the table's end, and a failed write is not forgotten (invariant); places left to list fall (measure).
 use Prim.Native.Nat.{_≤_, _-_}
 use borrow.Author.Needs.{needs}
 use native.Mathlib.Omega.{arith}
 use Rattle.jobs.specs.Places.{Kept}
+use Rattle.kinds.specs.Limits.{highestTask}
 use Rattle.jobs.proofs.listing.put_tasks.Statement.{statement}
 use Rattle.jobs.proofs.listing.put_tasks.Tie as tie
-use Rattle.jobs.proofs.listing.put_tasks.Reads as reads
-use Rattle.jobs.proofs.listing.put_tasks.Lts as lts
-use Rattle.jobs.proofs.lines.put_task.Reads as put-task-reads
-use Rattle.jobs.proofs.task_row.RawTask.of.Reads as of-reads
 
 abbrev Inv-loop : tie.InvT-loop
-Inv-loop out₀ at f k₀ i₀ out k i = (i ≤ 32) × Kept at k
+Inv-loop out₀ at f k₀ i₀ out k i = (i ≤ highestTask) × Kept at k
 
 abbrev μ-loop : tie.MeasureT-loop
-μ-loop out₀ at f k₀ i₀ out k i = 32 - i
+μ-loop out₀ at f k₀ i₀ out k i = highestTask - i
 
 loop-holds : tie.Need-loop-holds Inv-loop μ-loop
 loop-holds c = omega arith
@@ -47,17 +45,5 @@ returns c = search needs
 
 pub put-tasks-spec : {M : Type 1} → statement M
 put-tasks-spec =
-    tie.close
-    (tie.spec
-    Inv-loop
-    μ-loop
-    loop-holds
-    mul-x
-    element-copy-out-x
-    add-i
-    cast-put-task
-    of-requires
-    put-task-requires
-    loop-less
-    loop-again
-    returns)
+    tie.close (tie.spec Inv-loop μ-loop loop-holds mul-x element-copy-out-x add-i cast-put-task of-requires
+    put-task-requires loop-less loop-again returns)

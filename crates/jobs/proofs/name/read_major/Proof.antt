@@ -1,19 +1,18 @@
+-- i is within the major part, which keeps its length (invariant); bytes left to read fall (measure).
 use Prim.Native.Nat.{_≤_, _-_}
 use mathlib.Core.Path.{_≡_, refl}
 use native.Mathlib.Omega.{arith}
 use borrow.Author.Needs.{needs}
 use lib.ListN.{length, length-set}
+use Rattle.kinds.specs.Limits.{majorBytes}
 use Rattle.jobs.proofs.name.read_major.Statement.{statement}
 use Rattle.jobs.proofs.name.read_major.Tie as tie
-use Rattle.jobs.proofs.name.read_major.Reads as reads
-use Rattle.jobs.proofs.name.read_major.Lts as lts
-use Rattle.jobs.proofs.hex.byte.Reads as byte-reads
 
 abbrev Inv-loop : tie.InvT-loop
-Inv-loop line at bytes₀ i₀ bytes i = (i ≤ 8) × (length bytes ≡ 8)
+Inv-loop line at bytes₀ i₀ bytes i = (i ≤ majorBytes) × (length bytes ≡ majorBytes)
 
 abbrev μ-loop : tie.MeasureT-loop
-μ-loop line at bytes₀ i₀ bytes i = 8 - i
+μ-loop line at bytes₀ i₀ bytes i = majorBytes - i
 
 loop-holds : tie.Need-loop-holds Inv-loop μ-loop
 loop-holds c = (omega arith, refl)
@@ -50,18 +49,5 @@ returns-2 c = search needs
 
 pub read-major-spec : {M : Type 1} → statement M
 read-major-spec =
-    tie.close
-    (tie.spec
-    Inv-loop
-    μ-loop
-    loop-holds
-    mul-byte
-    add-byte
-    byte-requires
-    returns
-    cast-bytes
-    array-write-bytes
-    add-i
-    loop-less
-    loop-again
-    returns-2)
+    tie.close (tie.spec Inv-loop μ-loop loop-holds mul-byte add-byte byte-requires returns cast-bytes array-write-bytes
+    add-i loop-less loop-again returns-2)

@@ -1,19 +1,17 @@
-use mathlib.Core.Path.{ap}
+-- i is within the bytes given, and those kept have room (invariant); bytes left to read fall (measure).
 use mathlib.Core.Logic.{⊎-elim}
 use Prim.Native.Nat.{_≤_, _-_}
-use mathlib.Core.Path.{_≡_, refl}
+use mathlib.Core.Path.{_≡_, refl, ap}
 use native.Mathlib.Omega.{arith}
 use borrow.Author.Needs.{needs}
 use lib.ListN.{length, length-set}
+use Rattle.kinds.specs.Limits.{longestMinor}
 use Rattle.jobs.proofs.name.read_minor.Statement.{statement}
 use Rattle.jobs.proofs.name.read_minor.Tie as tie
-use Rattle.jobs.proofs.name.read_minor.Reads as reads
-use Rattle.jobs.proofs.name.read_minor.Lts as lts
-use Rattle.jobs.proofs.hex.byte.Reads as byte-reads
-use Rattle.jobs.proofs.name.least.Reads as least-reads
 
 abbrev Inv-loop : tie.InvT-loop
-Inv-loop line at count most bytes₀ kept i₀ bytes i = (i ≤ count) × (length bytes ≡ 44) × (kept ≤ 44)
+Inv-loop line at count most bytes₀ kept i₀ bytes i =
+    (i ≤ count) × (length bytes ≡ longestMinor) × (kept ≤ longestMinor)
 
 abbrev μ-loop : tie.MeasureT-loop
 μ-loop line at count most bytes₀ kept i₀ bytes i = count - i
@@ -49,26 +47,16 @@ loop-less : tie.Need-loop-less Inv-loop μ-loop
 loop-less c = search needs
 
 loop-again : tie.Need-loop-again Inv-loop μ-loop
-loop-again c = ⊎-elim (λ w. (omega arith, omega (arith, simp length-set at (ap length (w .1))), omega arith)) (λ w. (omega arith, omega (arith, ap length (w .1)), omega arith)) (c .if2 .came)
+loop-again c =
+    ⊎-elim
+    (λ w. (omega arith, omega (arith, simp length-set at (ap length (w .1))), omega arith))
+    (λ w. (omega arith, omega (arith, ap length (w .1)), omega arith))
+    (c .if2 .came)
 
 returns-2 : tie.Need-returns-2 Inv-loop μ-loop
 returns-2 c = search needs
 
 pub read-minor-spec : {M : Type 1} → statement M
 read-minor-spec =
-    tie.close
-    (tie.spec
-    Inv-loop
-    μ-loop
-    least-requires
-    loop-holds
-    mul-byte
-    add-byte
-    byte-requires
-    returns
-    cast-bytes
-    array-write-bytes
-    add-i
-    loop-less
-    loop-again
-    returns-2)
+    tie.close (tie.spec Inv-loop μ-loop least-requires loop-holds mul-byte add-byte byte-requires returns cast-bytes
+    array-write-bytes add-i loop-less loop-again returns-2)

@@ -1,9 +1,8 @@
+-- i is from `from` to `end` (invariant); bytes left to look at fall (measure).
 use Prim.Native.Nat.{_≤_, _-_}
 use borrow.Author.Needs.{needs}
 use Rattle.jobs.proofs.name.slash.Statement.{statement}
 use Rattle.jobs.proofs.name.slash.Tie as tie
-use Rattle.jobs.proofs.name.slash.Reads as reads
-use Rattle.jobs.proofs.name.slash.Lts as lts
 
 abbrev Inv-loop : tie.InvT-loop
 Inv-loop line from end i₀ i = (from ≤ i) × (i ≤ end)
@@ -34,14 +33,4 @@ returns-2 c = search needs
 
 pub slash-spec : {M : Type 1} → statement M
 slash-spec =
-    tie.close
-    (tie.spec
-    Inv-loop
-    μ-loop
-    loop-holds
-    shared-slice-read-if1
-    returns
-    add-i
-    loop-less
-    loop-again
-    returns-2)
+    tie.close (tie.spec Inv-loop μ-loop loop-holds shared-slice-read-if1 returns add-i loop-less loop-again returns-2)

@@ -1,17 +1,14 @@
+-- i is within the word, and the value not above the highest number (invariant); digits left to read fall (measure).
 use Prim.Native.Nat.{_≤_, _-_}
 use native.Mathlib.Omega.{arith}
 use borrow.Author.Needs.{needs}
 use lib.ListN.{length}
+use Rattle.jobs.specs.Sizes.{highestNumber}
 use Rattle.jobs.proofs.number.read.Statement.{statement}
 use Rattle.jobs.proofs.number.read.Tie as tie
-use Rattle.jobs.proofs.number.read.Reads as reads
-use Rattle.jobs.proofs.number.read.Lts as lts
-use Rattle.jobs.proofs.number.digit.Reads as digit-reads
-use Rattle.jobs.proofs.number.none.Reads as none-reads
-use Rattle.jobs.proofs.word.end_of.Reads as end-of-reads
 
 abbrev Inv-loop : tie.InvT-loop
-Inv-loop line at end value₀ i₀ value i = (i ≤ end) × (at ≤ i) × (end ≤ length line) × (value ≤ 4294967295)
+Inv-loop line at end value₀ i₀ value i = (i ≤ end) × (at ≤ i) × (end ≤ length line) × (value ≤ highestNumber)
 
 abbrev μ-loop : tie.MeasureT-loop
 μ-loop line at end value₀ i₀ value i = end - i
@@ -81,28 +78,6 @@ returns-5 c = search needs
 
 pub read-spec : {M : Type 1} → statement M
 read-spec =
-    tie.close
-    (tie.spec
-    Inv-loop
-    μ-loop
-    end-of-requires
-    none-requires
-    returns
-    sub-if2
-    none-requires-2
-    returns-2
-    loop-holds
-    shared-slice-read-digit
-    digit-requires
-    none-requires-3
-    returns-3
-    mul-value
-    add-value
-    none-requires-4
-    returns-4
-    add-i
-    loop-less
-    loop-again
-    cast-t13
-    add-t8
-    returns-5)
+    tie.close (tie.spec Inv-loop μ-loop end-of-requires none-requires returns sub-if2 none-requires-2 returns-2
+    loop-holds shared-slice-read-digit digit-requires none-requires-3 returns-3 mul-value add-value none-requires-4
+    returns-4 add-i loop-less loop-again cast-t13 add-t8 returns-5)

@@ -1,15 +1,13 @@
+-- n is at most the number of places (invariant) and falls (measure).
 use Prim.Native.Nat.{_≤_}
 use borrow.Author.Needs.{needs}
 use native.Mathlib.Omega.{arith}
+use Rattle.kinds.specs.Limits.{mostAreas}
 use Rattle.jobs.proofs.poking.used_areas.Statement.{statement}
 use Rattle.jobs.proofs.poking.used_areas.Tie as tie
-use Rattle.jobs.proofs.poking.used_areas.Reads as reads
-use Rattle.jobs.proofs.poking.used_areas.Lts as lts
-use Rattle.jobs.proofs.area_row.RawArea.is_zero.Reads as is-zero-reads
-use Rattle.jobs.proofs.area_row.RawArea.of.Reads as of-reads
 
 abbrev Inv-loop : tie.InvT-loop
-Inv-loop s n₀ n = n ≤ 128
+Inv-loop s n₀ n = n ≤ mostAreas
 
 abbrev μ-loop : tie.MeasureT-loop
 μ-loop s n₀ n = n
@@ -49,18 +47,5 @@ returns-2 c = search needs
 
 pub used-areas-spec : {M : Type 1} → statement M
 used-areas-spec =
-    tie.close
-    (tie.spec
-    Inv-loop
-    μ-loop
-    loop-holds
-    sub-of
-    mul-of
-    element-copy-out-of
-    of-requires
-    is-zero-requires
-    returns
-    sub-n
-    loop-less
-    loop-again
-    returns-2)
+    tie.close (tie.spec Inv-loop μ-loop loop-holds sub-of mul-of element-copy-out-of of-requires is-zero-requires
+    returns sub-n loop-less loop-again returns-2)

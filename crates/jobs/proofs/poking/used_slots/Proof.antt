@@ -1,15 +1,13 @@
+-- n is at most the number of places (invariant) and falls (measure).
 use Prim.Native.Nat.{_≤_}
 use borrow.Author.Needs.{needs}
 use native.Mathlib.Omega.{arith}
+use Rattle.kinds.specs.Limits.{mostEntries}
 use Rattle.jobs.proofs.poking.used_slots.Statement.{statement}
 use Rattle.jobs.proofs.poking.used_slots.Tie as tie
-use Rattle.jobs.proofs.poking.used_slots.Reads as reads
-use Rattle.jobs.proofs.poking.used_slots.Lts as lts
-use Rattle.jobs.proofs.entry_row.RawEntry.is_zero.Reads as is-zero-reads
-use Rattle.jobs.proofs.entry_row.RawEntry.of.Reads as of-reads
 
 abbrev Inv-loop : tie.InvT-loop
-Inv-loop q n₀ n = n ≤ 128
+Inv-loop q n₀ n = n ≤ mostEntries
 
 abbrev μ-loop : tie.MeasureT-loop
 μ-loop q n₀ n = n
@@ -49,18 +47,5 @@ returns-2 c = search needs
 
 pub used-slots-spec : {M : Type 1} → statement M
 used-slots-spec =
-    tie.close
-    (tie.spec
-    Inv-loop
-    μ-loop
-    loop-holds
-    sub-of
-    mul-of
-    element-copy-out-of
-    of-requires
-    is-zero-requires
-    returns
-    sub-n
-    loop-less
-    loop-again
-    returns-2)
+    tie.close (tie.spec Inv-loop μ-loop loop-holds sub-of mul-of element-copy-out-of of-requires is-zero-requires
+    returns sub-n loop-less loop-again returns-2)

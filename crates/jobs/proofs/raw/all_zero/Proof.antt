@@ -1,11 +1,10 @@
+-- i is within the bytes or at their end (invariant); bytes left to look at fall (measure).
 use Prim.Native.Nat.{_≤_, _-_}
 use lib.ListN.{length}
 use borrow.Author.Needs.{needs}
 use native.Mathlib.Omega.{arith}
 use Rattle.jobs.proofs.raw.all_zero.Statement.{statement}
 use Rattle.jobs.proofs.raw.all_zero.Tie as tie
-use Rattle.jobs.proofs.raw.all_zero.Reads as reads
-use Rattle.jobs.proofs.raw.all_zero.Lts as lts
 
 abbrev Inv-loop : tie.InvT-loop
 Inv-loop bytes i₀ i = i ≤ length bytes
@@ -36,14 +35,4 @@ returns-2 c = search needs
 
 pub all-zero-spec : {M : Type 1} → statement M
 all-zero-spec =
-    tie.close
-    (tie.spec
-    Inv-loop
-    μ-loop
-    loop-holds
-    shared-slice-read-if1
-    returns
-    add-i
-    loop-less
-    loop-again
-    returns-2)
+    tie.close (tie.spec Inv-loop μ-loop loop-holds shared-slice-read-if1 returns add-i loop-less loop-again returns-2)

@@ -1,13 +1,9 @@
+-- The codes that are said have the length asked for, as length-take says; the other needs are found.
 use native.Mathlib.Omega.{arith}
 use borrow.Author.Needs.{needs}
 use lib.ListN.{length-take}
 use Rattle.jobs.proofs.saying.say.Statement.{statement}
 use Rattle.jobs.proofs.saying.say.Tie as tie
-use Rattle.jobs.proofs.saying.say.Reads as reads
-use Rattle.jobs.proofs.saying.say.Lts as lts
-use Rattle.jobs.proofs.listing.answer.Reads as answer-reads
-use Rattle.jobs.proofs.saying.mark.Reads as mark-reads
-use Rattle.jobs.proofs.text.put.Reads as put-reads
 
 enum-told : tie.Need-enum-told
 enum-told c = search needs
@@ -68,24 +64,6 @@ returns-5 c = search needs
 
 pub say-spec : {M : Type 1} → statement M
 say-spec =
-    tie.close
-    (tie.spec
-    enum-told
-    enum-told-2
-    slice-aggregate-mark
-    mark-requires
-    enum-told-3
-    slice-aggregate-mark-2
-    mark-requires-2
-    enum-told-4
-    slice-aggregate-put
-    put-requires
-    enum-known-said
-    array-share-prefix-codes
-    slice-aggregate-answer
-    answer-requires
-    returns
-    returns-2
-    returns-3
-    returns-4
-    returns-5)
+    tie.close (tie.spec enum-told enum-told-2 slice-aggregate-mark mark-requires enum-told-3 slice-aggregate-mark-2
+    mark-requires-2 enum-told-4 slice-aggregate-put put-requires enum-known-said array-share-prefix-codes
+    slice-aggregate-answer answer-requires returns returns-2 returns-3 returns-4 returns-5)

@@ -1,25 +1,20 @@
+-- What is not yet taken is within the block, which keeps its length (invariant); lines left to number fall (measure).
 use Prim.Native.Nat.{_≤_, _-_}
 use mathlib.Core.Path.{_≡_, refl, sym}
 use native.Mathlib.Omega.{arith}
 use borrow.Author.Needs.{needs}
 use lib.ListN.{length}
+use Rattle.jobs.specs.Sizes.{blockSize, highestLine}
 use Rattle.jobs.proofs.script.run.Statement.{statement}
 use Rattle.jobs.proofs.script.run.Tie as tie
-use Rattle.jobs.proofs.script.run.Reads as reads
-use Rattle.jobs.proofs.script.run.Lts as lts
-use Rattle.jobs.proofs.form.is_nothing.Reads as is-nothing-reads
-use Rattle.jobs.proofs.input.line.Reads as line-reads
-use Rattle.jobs.proofs.listing.dump.Reads as dump-reads
-use Rattle.jobs.proofs.saying.say.Reads as say-reads
-use Rattle.jobs.proofs.text.flush.Reads as flush-reads
-use Rattle.jobs.proofs.turn.taken.Reads as taken-reads
-use Rattle.services.proofs.Tables.fresh.Reads as fresh-reads
 
 abbrev Inv-loop : tie.InvT-loop
-Inv-loop block₀ out₀ tables₀ next₀ end₀ at₀ number₀ ended₀ block out tables next end at number ended = (length block ≡ 65536) × (next ≤ end) × (end ≤ 65536)
+Inv-loop block₀ out₀ tables₀ next₀ end₀ at₀ number₀ ended₀ block out tables next end at number ended =
+    (length block ≡ blockSize) × (next ≤ end) × (end ≤ blockSize)
 
 abbrev μ-loop : tie.MeasureT-loop
-μ-loop block₀ out₀ tables₀ next₀ end₀ at₀ number₀ ended₀ block out tables next end at number ended = 18446744073709551615 - number
+μ-loop block₀ out₀ tables₀ next₀ end₀ at₀ number₀ ended₀ block out tables next end at number ended =
+    highestLine - number
 
 fresh-requires : tie.Need-fresh-requires Inv-loop μ-loop
 fresh-requires c κs = search needs
@@ -89,29 +84,7 @@ returns-2 c = search needs
 
 pub run-spec : {M : Type 1} → statement M
 run-spec =
-    tie.close
-    (tie.spec
-    Inv-loop
-    μ-loop
-    fresh-requires
-    loop-holds
-    slice-aggregate-line
-    line-requires
-    add-number
-    sub-is-nothing
-    part-is-nothing-start
-    part-is-nothing-end
-    is-nothing-requires
-    loop-less
-    loop-again
-    sub-taken
-    part-taken-start
-    part-taken-end
-    taken-requires
-    say-requires
-    dump-requires
-    loop-less-2
-    loop-again-2
-    flush-requires
-    returns
-    returns-2)
+    tie.close (tie.spec Inv-loop μ-loop fresh-requires loop-holds slice-aggregate-line line-requires add-number
+    sub-is-nothing part-is-nothing-start part-is-nothing-end is-nothing-requires loop-less loop-again sub-taken
+    part-taken-start part-taken-end taken-requires say-requires dump-requires loop-less-2 loop-again-2 flush-requires
+    returns returns-2)

@@ -1,13 +1,10 @@
+-- Past the block stays past it; a block that is written is empty; one that is not leaves a place past the block.
 use mathlib.Core.Logic.{inl, inr}
 use mathlib.Core.Path.{refl}
 use native.Mathlib.Omega.{arith}
 use borrow.Author.Needs.{needs}
 use Rattle.jobs.proofs.text.flush.Statement.{statement}
 use Rattle.jobs.proofs.text.flush.Tie as tie
-use Rattle.jobs.proofs.text.flush.Reads as reads
-use Rattle.jobs.proofs.text.flush.Lts as lts
-use Rattle.jobs.proofs.failure.unwritten.Reads as unwritten-reads
-use Rattle.jobs.proofs.text.write_front.Reads as write-front-reads
 
 returns : tie.Need-returns
 returns c = (inr (omega arith), omega arith)

@@ -1,3 +1,4 @@
+-- i is within the bytes, and a failed write is not forgotten (invariant); bytes left to put fall (measure).
 use Prim.Native.Nat.{_≤_, _-_}
 use lib.ListN.{length}
 use borrow.Author.Needs.{needs}
@@ -5,9 +6,6 @@ use native.Mathlib.Omega.{arith}
 use Rattle.jobs.specs.Places.{Kept}
 use Rattle.jobs.proofs.text.put.Statement.{statement}
 use Rattle.jobs.proofs.text.put.Tie as tie
-use Rattle.jobs.proofs.text.put.Reads as reads
-use Rattle.jobs.proofs.text.put.Lts as lts
-use Rattle.jobs.proofs.text.put_byte.Reads as put-byte-reads
 
 abbrev Inv-loop : tie.InvT-loop
 Inv-loop out₀ at bytes k₀ i₀ out k i = (i ≤ length bytes) × Kept at k
@@ -38,14 +36,5 @@ returns c = search needs
 
 pub put-spec : {M : Type 1} → statement M
 put-spec =
-    tie.close
-    (tie.spec
-    Inv-loop
-    μ-loop
-    loop-holds
-    shared-slice-read-put-byte
-    put-byte-requires
-    add-i
-    loop-less
-    loop-again
-    returns)
+    tie.close (tie.spec Inv-loop μ-loop loop-holds shared-slice-read-put-byte put-byte-requires add-i loop-less
+    loop-again returns)

@@ -1,3 +1,4 @@
+-- i is within the bytes, and a failed write is not forgotten (invariant); bytes left to put fall (measure).
 use Prim.Native.Nat.{_≤_, _-_}
 use lib.ListN.{length}
 use borrow.Author.Needs.{needs}
@@ -5,9 +6,6 @@ use native.Mathlib.Omega.{arith}
 use Rattle.jobs.specs.Places.{Kept}
 use Rattle.jobs.proofs.text.put_bytes_hex.Statement.{statement}
 use Rattle.jobs.proofs.text.put_bytes_hex.Tie as tie
-use Rattle.jobs.proofs.text.put_bytes_hex.Reads as reads
-use Rattle.jobs.proofs.text.put_bytes_hex.Lts as lts
-use Rattle.jobs.proofs.text.put_hex.Reads as put-hex-reads
 
 abbrev Inv-loop : tie.InvT-loop
 Inv-loop out₀ at bytes k₀ i₀ out k i = (i ≤ length bytes) × Kept at k
@@ -38,14 +36,5 @@ returns c = search needs
 
 pub put-bytes-hex-spec : {M : Type 1} → statement M
 put-bytes-hex-spec =
-    tie.close
-    (tie.spec
-    Inv-loop
-    μ-loop
-    loop-holds
-    shared-slice-read-put-hex
-    put-hex-requires
-    add-i
-    loop-less
-    loop-again
-    returns)
+    tie.close (tie.spec Inv-loop μ-loop loop-holds shared-slice-read-put-hex put-hex-requires add-i loop-less
+    loop-again returns)

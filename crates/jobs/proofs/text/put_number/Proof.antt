@@ -1,15 +1,13 @@
+-- What is left of the number has at most as many digits as places before `first` (invariant), which fall (measure).
 use Prim.Native.Nat.{ℕ, zero, suc, _-_, _*_, _/_, _^_, _≤_, _<_}
 use native.Mathlib.Nat.{pow-suc}
 use mathlib.Core.Path.{_≡_, refl}
 use lib.ListN.{length, length-set}
 use borrow.Author.Needs.{needs}
 use native.Mathlib.Omega.{arith}
+use Rattle.jobs.specs.Sizes.{mostDigits}
 use Rattle.jobs.proofs.text.put_number.Statement.{statement}
 use Rattle.jobs.proofs.text.put_number.Tie as tie
-use Rattle.jobs.proofs.text.put_number.Reads as reads
-use Rattle.jobs.proofs.text.put_number.Lts as lts
-use Rattle.jobs.proofs.text.put.Reads as put-reads
-use Rattle.jobs.proofs.text.put_byte.Reads as put-byte-reads
 
 -- A number that is not 0 has a digit left.
 some-left : (f r : ℕ) → 0 < r → r < 10 ^ f → 0 < f
@@ -24,7 +22,8 @@ one-less (suc f) r h k =
     let m : suc f - 1 ≡ f = omega arith in rw m (omega arith)
 
 abbrev Inv-loop : tie.InvT-loop
-Inv-loop out at n digits₀ first₀ rest₀ digits first rest = (first ≤ 10) × (length digits ≡ 10) × (rest < 10 ^ first)
+Inv-loop out at n digits₀ first₀ rest₀ digits first rest =
+    (first ≤ mostDigits) × (length digits ≡ mostDigits) × (rest < 10 ^ first)
 
 abbrev μ-loop : tie.MeasureT-loop
 μ-loop out at n digits₀ first₀ rest₀ digits first rest = first
@@ -82,23 +81,6 @@ returns-2 c = search needs
 
 pub put-number-spec : {M : Type 1} → statement M
 put-number-spec =
-    tie.close
-    (tie.spec
-    Inv-loop
-    μ-loop
-    cast-put-byte
-    add-put-byte
-    put-byte-requires
-    returns
-    loop-holds
-    sub-first
-    cast-digits
-    add-digits
-    array-write-digits
-    loop-less
-    loop-again
-    sub-put
-    part-put-start
-    part-put-end
-    put-requires
+    tie.close (tie.spec Inv-loop μ-loop cast-put-byte add-put-byte put-byte-requires returns loop-holds sub-first
+    cast-digits add-digits array-write-digits loop-less loop-again sub-put part-put-start part-put-end put-requires
     returns-2)

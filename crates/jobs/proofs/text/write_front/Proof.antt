@@ -1,11 +1,9 @@
+-- The part that is written has the length asked for, as length-take says; the other needs are found.
 use native.Mathlib.Omega.{arith}
 use lib.ListN.{length-take}
 use borrow.Author.Needs.{needs}
 use Rattle.jobs.proofs.text.write_front.Statement.{statement}
 use Rattle.jobs.proofs.text.write_front.Tie as tie
-use Rattle.jobs.proofs.text.write_front.Reads as reads
-use Rattle.jobs.proofs.text.write_front.Lts as lts
-use Rattle.io.proofs.write_all.Reads as write-all-reads
 
 slice-reshare-prefix-write-all : tie.Need-slice-reshare-prefix-write-all
 slice-reshare-prefix-write-all c = search needs
@@ -33,13 +31,5 @@ returns-2 c = search needs
 
 pub write-front-spec : {M : Type 1} → statement M
 write-front-spec =
-    tie.close
-    (tie.spec
-    slice-reshare-prefix-write-all
-    slice-aggregate-write-all
-    write-all-requires
-    same-length
-    returns
-    write-all-requires-2
-    same-length-2
-    returns-2)
+    tie.close (tie.spec slice-reshare-prefix-write-all slice-aggregate-write-all write-all-requires same-length returns
+    write-all-requires-2 same-length-2 returns-2)

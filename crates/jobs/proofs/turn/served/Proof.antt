@@ -1,12 +1,9 @@
+-- The codes area that is lent has the length asked for, as length-take says; the other needs are found.
 use native.Mathlib.Omega.{arith}
 use borrow.Author.Needs.{needs}
 use lib.ListN.{length-take}
 use Rattle.jobs.proofs.turn.served.Statement.{statement}
 use Rattle.jobs.proofs.turn.served.Tie as tie
-use Rattle.jobs.proofs.turn.served.Reads as reads
-use Rattle.jobs.proofs.turn.served.Lts as lts
-use Rattle.jobs.proofs.turn.answered.Reads as answered-reads
-use Rattle.services.proofs.Tables.serve.Reads as serve-reads
 
 array-borrow-prefix-codes : tie.Need-array-borrow-prefix-codes
 array-borrow-prefix-codes c = search needs
@@ -25,10 +22,4 @@ returns c = search needs
 
 pub served-spec : {M : Type 1} → statement M
 served-spec =
-    tie.close
-    (tie.spec
-    array-borrow-prefix-codes
-    slice-aggregate-serve
-    serve-requires
-    answered-requires
-    returns)
+    tie.close (tie.spec array-borrow-prefix-codes slice-aggregate-serve serve-requires answered-requires returns)

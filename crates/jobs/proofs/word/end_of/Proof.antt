@@ -1,14 +1,13 @@
+-- i is not before the word (invariant); bytes left of the line fall (measure).
 use Prim.Native.Nat.{_≤_, _-_}
 use native.Mathlib.Omega.{arith}
 use borrow.Author.Needs.{needs}
 use lib.ListN.{length}
 use Rattle.jobs.proofs.word.end_of.Statement.{statement}
 use Rattle.jobs.proofs.word.end_of.Tie as tie
-use Rattle.jobs.proofs.word.end_of.Reads as reads
-use Rattle.jobs.proofs.word.end_of.Lts as lts
 
 abbrev Inv-loop : tie.InvT-loop
-Inv-loop line at i₀ i = (at ≤ i)
+Inv-loop line at i₀ i = at ≤ i
 
 abbrev μ-loop : tie.MeasureT-loop
 μ-loop line at i₀ i = length line - i
@@ -36,14 +35,4 @@ returns-2 c = search needs
 
 pub end-of-spec : {M : Type 1} → statement M
 end-of-spec =
-    tie.close
-    (tie.spec
-    Inv-loop
-    μ-loop
-    loop-holds
-    shared-slice-read-if1
-    returns
-    add-i
-    loop-less
-    loop-again
-    returns-2)
+    tie.close (tie.spec Inv-loop μ-loop loop-holds shared-slice-read-if1 returns add-i loop-less loop-again returns-2)

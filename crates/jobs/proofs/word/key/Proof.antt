@@ -1,15 +1,13 @@
+-- i is not before the word (invariant); bytes left of the line fall (measure). Seven bytes and one more fit a key.
 use Prim.Native.Nat.{_≤_, _-_}
 use native.Mathlib.Omega.{arith}
 use borrow.Author.Needs.{needs}
 use lib.ListN.{length}
 use Rattle.jobs.proofs.word.key.Statement.{statement}
 use Rattle.jobs.proofs.word.key.Tie as tie
-use Rattle.jobs.proofs.word.key.Reads as reads
-use Rattle.jobs.proofs.word.key.Lts as lts
-use Rattle.jobs.proofs.word.wide.Reads as wide-reads
 
 abbrev Inv-loop : tie.InvT-loop
-Inv-loop line at key₀ i₀ key i = (at ≤ i)
+Inv-loop line at key₀ i₀ key i = at ≤ i
 
 abbrev μ-loop : tie.MeasureT-loop
 μ-loop line at key₀ i₀ key i = length line - i
@@ -52,19 +50,5 @@ returns-4 c = search needs
 
 pub key-spec : {M : Type 1} → statement M
 key-spec =
-    tie.close
-    (tie.spec
-    Inv-loop
-    μ-loop
-    loop-holds
-    shared-slice-read-byte
-    returns
-    returns-2
-    returns-3
-    mul-key
-    wide-requires
-    add-key
-    add-i
-    loop-less
-    loop-again
-    returns-4)
+    tie.close (tie.spec Inv-loop μ-loop loop-holds shared-slice-read-byte returns returns-2 returns-3 mul-key
+    wide-requires add-key add-i loop-less loop-again returns-4)

@@ -1,3 +1,4 @@
+-- Each return cites the form that led to it, the last also the contract of the search for a name asked for shared.
 use borrow.Author.Needs.{needs}
 use Rattle.names.proofs.list.asks_shared.Statement.{statement}
 use Rattle.names.proofs.list.asks_shared.Tie as tie
@@ -37,16 +38,5 @@ returns-5 c = rw (c .before .enum-told5 .given .1) (c .some-shared .ensures)
 
 pub asks-shared-spec : {M : Type 1} → statement M
 asks-shared-spec =
-    tie.close
-    (tie.spec
-    enum-told
-    enum-told-2
-    enum-told-3
-    enum-told-4
-    enum-told-5
-    some-shared-requires
-    returns
-    returns-2
-    returns-3
-    returns-4
-    returns-5)
+    tie.close (tie.spec enum-told enum-told-2 enum-told-3 enum-told-4 enum-told-5 some-shared-requires returns
+    returns-2 returns-3 returns-4 returns-5)

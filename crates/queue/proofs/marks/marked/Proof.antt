@@ -1,6 +1,9 @@
+-- What lies past the marks changes none of them; else the mark is written as the definition has it.
 use mathlib.Core.Path.{_≡_, refl}
+use Prim.Native.Nat.{_+_}
 use lib.ListN.{length}
 use Rattle.lists.specs.Arrays.{mapped-length}
+use Rattle.kinds.specs.Limits.{highestTask}
 use Rattle.queue.specs.Marking.{withMark}
 use Rattle.queue.proofs.Barring.{mark-past}
 use native.Mathlib.Omega.{arith}
@@ -13,8 +16,9 @@ cast-k c = search needs
 
 returns : tie.Need-returns
 returns c =
-    let h : length ((c .before .before .args) .m .tasks) ≡ 33 = search (needs, mapped-length) in
-    mark-past ((c .before .before .args) .m) ((c .before .before .args) .t .0) ((c .before .before .args) .granted) (omega arith)
+    let a = c .before .before .args in
+    let h : length (a .m .tasks) ≡ highestTask + 1 = search (needs, mapped-length) in
+    mark-past (a .m) (a .t .0) (a .granted) (omega arith)
 
 element-copy-out-before : tie.Need-element-copy-out-before
 element-copy-out-before c = search needs

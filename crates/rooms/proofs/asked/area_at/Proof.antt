@@ -1,3 +1,4 @@
+-- The length and the owner are those that the two calls give.
 use Rattle.rules.specs.Storage.{areaAt}
 use borrow.Author.Needs.{needs}
 use Rattle.rooms.proofs.asked.area_at.Statement.{statement}
@@ -13,7 +14,12 @@ returns : tie.Need-returns
 unfolding areaAt
 returns c =
     let a = c .before .before .args in
-    λ i. record { start = a .start; size = c .before .rounded .ensures i; subpool = a .subpool; owner = record { 0 = c .owner-in .ensures i } }
+    λ i. record {
+      start = a .start;
+      size = c .before .rounded .ensures i;
+      subpool = a .subpool;
+      owner = record { 0 = c .owner-in .ensures i };
+    }
 
 pub area-at-spec : {M : Type 1} → statement M
 area-at-spec = tie.close (tie.spec rounded-requires owner-in-requires returns)

@@ -1,3 +1,4 @@
+-- Each return is one side of the choice, by the test that led to it.
 use mathlib.Core.Path.{sym}
 use borrow.Author.Tests.{eq-eqb, ne-eqb}
 use Rattle.lists.specs.Pick.{pick-true, pick-false}

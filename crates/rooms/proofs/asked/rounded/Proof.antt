@@ -1,3 +1,4 @@
+-- A length in range leaves room for the sum.
 use native.Mathlib.Omega.{arith}
 use mathlib.Core.Path.{refl}
 use Rattle.rules.specs.Storage.{rounded}

@@ -1,3 +1,4 @@
+-- Each return is one side of the choice, by the tests of owner and subpool that led to it.
 use borrow.Author.Tests.{eq-eqb, ne-eqb}
 use Rattle.lists.specs.Pick.{pick}
 use Rattle.rules.specs.Storage.{oneHolder}
@@ -42,14 +43,4 @@ returns-3 c =
 
 pub bar-spec : {M : Type 1} → statement M
 bar-spec =
-    tie.close
-    (tie.spec
-    cast-page
-    end-of-requires
-    sub-past
-    add-past
-    div-past
-    mul-past
-    returns
-    returns-2
-    returns-3)
+    tie.close (tie.spec cast-page end-of-requires sub-past add-past div-past mul-past returns returns-2 returns-3)

@@ -1,3 +1,4 @@
+-- Each return is one side of the choice, by the test that led to it.
 use borrow.Author.Tests.{le-leb, lt-leb}
 use Rattle.lists.specs.Pick.{pick}
 use Rattle.rules.specs.Storage.{rounded}

@@ -1,3 +1,4 @@
+-- What `endings` makes of its tables is what the rules make of the step (`abend-settles`).
 use mathlib.Core.Path.{refl}
 use Rattle.services.proofs.Glue.{admitted-packed, caller-ends}
 use Rattle.services.proofs.Settling.{abend-settles}
@@ -9,13 +10,20 @@ whole-requires : tie.Need-whole-requires
 whole-requires c κs = search needs
 
 abended-requires : tie.Need-abended-requires
-abended-requires c κs = caller-ends ((c .before .args) .self) ((c .before .args) .caller) (c .before .pre) _ ((c .whole) .ensures)
+abended-requires c κs =
+    let a = c .before .args in
+    caller-ends (a .self) (a .caller) (c .before .pre) _ (c .whole .ensures)
 
 left-requires : tie.Need-left-requires
 left-requires c κs = (c .before .before .pre)
 
 returns : tie.Need-returns
-returns c = abend-settles ((c .before .before .before .args) .self) ((c .before .before .before .args) .caller) (admitted-packed ((c .before .before .before .args) .self) ((c .before .before .before .args) .caller) (c .before .before .before .pre)) _ ((c .before .before .whole) .ensures) _ _ _ _ refl refl ((c .left) .ensures) ((c .before .before .before .args) .code) ((c .before .before .before .args) .step) ((c .before .abended) .ensures)
+returns c =
+    let g = c .before .before .before .args in
+    let a = g in
+    abend-settles (a .self) (a .caller) (admitted-packed (a .self) (a .caller) (c .before .before .before .pre)) _
+    ((c .before .before .whole) .ensures) _ _ _ _ refl refl (c .left .ensures) (a .code) (a .step)
+    ((c .before .abended) .ensures)
 
 pub abend-body-spec : {M : Type 1} → statement M
 abend-body-spec = tie.close (tie.spec whole-requires abended-requires left-requires returns)

@@ -1,3 +1,4 @@
+-- What `subtasks` makes of its tables is what the rules make of the step (`attach-settles`).
 use mathlib.Core.Path.{refl, ap, _∙_}
 use mir.Facts.{toZ-ofZ}
 use lib.IntN.{ℤ}
@@ -16,7 +17,14 @@ attached-requires : tie.Need-attached-requires
 attached-requires c κs = (c .before .before .pre)
 
 returns : tie.Need-returns
-returns c = attach-settles ((c .before .before .before .args) .self) ((c .before .before .before .args) .caller) (admitted-packed ((c .before .before .before .args) .self) ((c .before .before .before .args) .caller) (c .before .before .before .pre)) _ _ _ refl ((c .attached) .ensures) ((c .before .before .before .args) .lpmod) ((c .before .before .before .args) .dpmod) ((c .before .before .before .args) .ecb) ((c .before .attach) .ensures ∙ ap (λ (z : ℤ). attachedBy (attachVerdict ((c .before .before .before .args) .self .family .places) ((c .before .before .before .args) .lpmod) z ((c .before .before .before .args) .ecb)) ((c .before .before .before .args) .self .family) ((c .before .before .before .args) .caller) ((c .before .before .before .args) .lpmod) z ((c .before .before .before .args) .ecb)) (toZ-ofZ ((c .before .before .before .fits) .dpmod)))
+returns c =
+    let g = c .before .before .before .args in
+    let a = g in
+    attach-settles (a .self) (a .caller) (admitted-packed (a .self) (a .caller)
+    (c .before .before .before .pre)) _ _ _ refl (c .attached .ensures) (a .lpmod) (a .dpmod) (a .ecb)
+    ((c .before .attach) .ensures ∙ ap (λ (z : ℤ). attachedBy
+    (attachVerdict (a .self .family .places) (a .lpmod) z (a .ecb)) (a .self .family) (a .caller) (a .lpmod) z (a .ecb))
+    (toZ-ofZ ((c .before .before .before .fits) .dpmod)))
 
 pub attach-body-spec : {M : Type 1} → statement M
 attach-body-spec = tie.close (tie.spec attach-requires attached-requires returns)

@@ -1,3 +1,4 @@
+-- What `signals` makes of its tables is what the rules make of the step (`clear-settles`).
 use mathlib.Core.Path.{refl}
 use Rattle.services.proofs.Glue.{admitted-packed}
 use Rattle.services.proofs.Settling.{clear-settles}
@@ -12,7 +13,12 @@ signalled-requires : tie.Need-signalled-requires
 signalled-requires c κs = (c .before .before .before .pre)
 
 returns : tie.Need-returns
-returns c = clear-settles ((c .before .before .before .before .args) .self) ((c .before .before .before .before .args) .caller) (admitted-packed ((c .before .before .before .before .args) .self) ((c .before .before .before .before .args) .caller) (c .before .before .before .before .pre)) _ _ _ refl ((c .signalled) .ensures) ((c .before .before .before .before .args) .ecb) ((c .before .cleared) .ensures)
+returns c =
+    let g = c .before .before .before .before .args in
+    let a = g in
+    clear-settles (a .self) (a .caller) (admitted-packed (a .self) (a .caller)
+    (c .before .before .before .before .pre)) _ _ _ refl (c .signalled .ensures) (a .ecb)
+    ((c .before .cleared) .ensures)
 
 pub clear-body-spec : {M : Type 1} → statement M
 clear-body-spec = tie.close (tie.spec cleared-requires signalled-requires returns)

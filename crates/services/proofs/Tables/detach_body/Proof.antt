@@ -1,3 +1,4 @@
+-- What `endings` makes of its tables is what the rules make of the step (`detach-settles`).
 use mathlib.Core.Path.{refl}
 use Rattle.services.proofs.Glue.{admitted-packed, caller-ends}
 use Rattle.services.proofs.Settling.{detach-settles}
@@ -9,13 +10,20 @@ whole-requires : tie.Need-whole-requires
 whole-requires c κs = search needs
 
 detached-requires : tie.Need-detached-requires
-detached-requires c κs = caller-ends ((c .before .args) .self) ((c .before .args) .caller) (c .before .pre) _ ((c .whole) .ensures)
+detached-requires c κs =
+    let a = c .before .args in
+    caller-ends (a .self) (a .caller) (c .before .pre) _ (c .whole .ensures)
 
 left-requires : tie.Need-left-requires
 left-requires c κs = (c .before .before .pre)
 
 returns : tie.Need-returns
-returns c = detach-settles ((c .before .before .before .args) .self) ((c .before .before .before .args) .caller) (admitted-packed ((c .before .before .before .args) .self) ((c .before .before .before .args) .caller) (c .before .before .before .pre)) _ ((c .before .before .whole) .ensures) _ _ _ _ refl refl ((c .left) .ensures) ((c .before .before .before .args) .task) ((c .before .detached) .ensures)
+returns c =
+    let g = c .before .before .before .args in
+    let a = g in
+    detach-settles (a .self) (a .caller) (admitted-packed (a .self) (a .caller) (c .before .before .before .pre)) _
+    ((c .before .before .whole) .ensures) _ _ _ _ refl refl (c .left .ensures) (a .task)
+    ((c .before .detached) .ensures)
 
 pub detach-body-spec : {M : Type 1} → statement M
 detach-body-spec = tie.close (tie.spec whole-requires detached-requires left-requires returns)

@@ -1,7 +1,9 @@
+-- What `claims` makes of queue, tasks and codes area is what the rules make of the step (`enq-settles`).
+use lib.ListN.{length}
 use mathlib.Core.Path.{refl}
 use Rattle.names.specs.Named.{namesIn}
 use Rattle.rules.specs.Enq.{enqVerdict}
-use Rattle.queue.specs.Queues.{live}
+use Rattle.queue.specs.Queues.{entriesIn}
 use Rattle.services.specs.Kept.{stepOf, settledWith}
 use Rattle.services.specs.Coded.{enqServed}
 use Rattle.services.proofs.Glue.{admitted-packed, caller-claims}
@@ -12,18 +14,35 @@ use Rattle.services.proofs.Tables.enq_body.Statement.{statement}
 use Rattle.services.proofs.Tables.enq_body.Tie as tie
 
 claimed-requires : tie.Need-claimed-requires
-claimed-requires c κs = (admitted-packed ((c .before .before .before .before .args) .self) ((c .before .before .before .before .args) .caller) (c .before .before .before .before .pre) .queue, caller-claims ((c .before .before .before .before .args) .self) ((c .before .before .before .before .args) .caller) (c .before .before .before .before .pre))
+claimed-requires c κs =
+    let g = c .before .before .before .before .args in
+    let a = g in (
+      admitted-packed (a .self) (a .caller) (c .before .before .before .before .pre) .queue,
+      caller-claims (a .self)
+          (a .caller) (c .before .before .before .before .pre),
+    )
 
 claimed-requires-2 : tie.Need-claimed-requires-2
-claimed-requires-2 c κs = (c .before .before .before .before .before .before .before .pre)
+claimed-requires-2 c κs =
+    let p = c .before .before .before .before .before .before .before in
+    let b = c .before .before .before .before .before .before .before in
+    (b .pre)
 
 same-length : tie.Need-same-length
 same-length c = search needs
 
 returns : tie.Need-returns
 returns c =
-    both-served (settledWith (enqVerdict (live ((c .before .before .before .before .before .before .before .before .args) .self .queue)) ((c .before .before .before .before .before .before .before .before .args) .caller) ((c .before .before .before .before .before .before .before .before .args) .ret) (namesIn ((c .before .before .before .before .before .before .before .before .args) .names)) ((c .before .before .before .before .before .before .before .before .args) .codes .now)) (stepOf ((c .before .before .before .before .before .before .before .before .args) .self)) ((c .before .before .before .before .before .before .before .before .args) .caller) ((c .before .before .before .before .before .before .before .before .args) .codes .now) (enqServed (stepOf ((c .before .before .before .before .before .before .before .before .args) .self)) ((c .before .before .before .before .before .before .before .before .args) .caller) ((c .before .before .before .before .before .before .before .before .args) .ret) (namesIn ((c .before .before .before .before .before .before .before .before .args) .names)) ((c .before .before .before .before .before .before .before .before .args) .codes .now))) _ _
-    (enq-settles ((c .before .before .before .before .before .before .before .before .args) .self) ((c .before .before .before .before .before .before .before .before .args) .caller) (admitted-packed ((c .before .before .before .before .before .before .before .before .args) .self) ((c .before .before .before .before .before .before .before .before .args) .caller) (c .before .before .before .before .before .before .before .before .pre)) _ _ _ refl ((c .claimed2) .ensures) ((c .before .before .before .before .before .before .before .before .args) .ret) (namesIn ((c .before .before .before .before .before .before .before .before .args) .names)) ((c .before .before .before .before .before .before .before .before .args) .codes .now) ((c .before .before .before .claimed) .ensures .0))
+    let g = c .before .before .before .before .before .before .before .before .args in
+    let p = c .before .before .before .before .before .before .before .before in
+    let a = g in
+    let b = c .before .before .before .before .before .before .before .before in
+    both-served (settledWith (enqVerdict (entriesIn (a .self .queue)) (a .caller) (a .ret) (namesIn (a .names))
+    (length (a .codes .now))) (stepOf (a .self)) (a .caller) (a .codes .now)
+    (enqServed (stepOf (a .self)) (a .caller) (a .ret) (namesIn (a .names)) (a .codes .now))) _ _
+    (enq-settles (a .self) (a .caller) (admitted-packed (a .self) (a .caller) (b .pre)) _ _ _ refl
+    (c .claimed2 .ensures) (a .ret) (namesIn (a .names)) (length (a .codes .now))
+    ((c .before .before .before .claimed) .ensures .0))
     ((c .before .before .before .claimed) .ensures .1)
 
 pub enq-body-spec : {M : Type 1} → statement M

@@ -1,3 +1,4 @@
+-- A gate that is shut refuses; behind an open one the body's answer is the rules'.
 use Rattle.rules.specs.Steps.{Step}
 use Rattle.rules.specs.Admission.{gateOf}
 use Rattle.rules.specs.Freemain.{freemainBody}
@@ -19,22 +20,28 @@ enum-told : tie.Need-enum-told
 enum-told c = search needs
 
 freemain-body-requires : tie.Need-freemain-body-requires
-freemain-body-requires c κs = gate-admits ((c .before .before .before .args) .self) ((c .before .before .before .args) .caller) _ ((c .before .before .gate) .ensures) (search needs)
+freemain-body-requires c κs =
+    let g = c .before .before .before .args in
+    let a = g in
+    gate-admits (a .self) (a .caller) _ ((c .before .before .gate) .ensures) (search needs)
 
 returns : tie.Need-returns
-returns c = at-shut ((c .before .before .before .before .before .args) .self) (λ (s : Step). gateOf s ((c .before .before .before .before .before .args) .caller)) (λ (s : Step). freemainBody s ((c .before .before .before .before .before .args) .caller) ((c .before .before .before .before .before .args) .address) ((c .before .before .before .before .before .args) .bytes) ((c .before .before .before .before .before .args) .subpool)) _ _ _ ((c .before .before .before .before .gate) .ensures) ((c .before .before .why) .given .1) ((c .refused) .ensures)
+returns c =
+    let g = c .before .before .before .before .before .args in
+    let a = g in
+    at-shut (a .self) (λ (s : Step). gateOf s (a .caller))
+    (λ (s : Step). freemainBody s (a .caller) (a .address) (a .bytes) (a .subpool)) _ _ _
+    ((c .before .before .before .before .gate) .ensures) ((c .before .before .why) .given .1) (c .refused .ensures)
 
 returns-2 : tie.Need-returns-2
-returns-2 c = at-open ((c .before .before .before .before .args) .self) (λ (s : Step). gateOf s ((c .before .before .before .before .args) .caller)) (λ (s : Step). freemainBody s ((c .before .before .before .before .args) .caller) ((c .before .before .before .before .args) .address) ((c .before .before .before .before .args) .bytes) ((c .before .before .before .before .args) .subpool)) _ _ ((c .before .before .before .gate) .ensures) (search needs) ((c .freemain-body) .ensures)
+returns-2 c =
+    let g = c .before .before .before .before .args in
+    let a = g in
+    at-open (a .self) (λ (s : Step). gateOf s (a .caller))
+    (λ (s : Step). freemainBody s (a .caller) (a .address) (a .bytes) (a .subpool)) _ _
+    ((c .before .before .before .gate) .ensures) (search needs) (c .freemain-body .ensures)
 
 pub freemain-spec : {M : Type 1} → statement M
 freemain-spec =
-    tie.close
-    (tie.spec
-    gate-requires
-    enum-known-why
-    refused-requires
-    enum-told
-    freemain-body-requires
-    returns
+    tie.close (tie.spec gate-requires enum-known-why refused-requires enum-told freemain-body-requires returns
     returns-2)

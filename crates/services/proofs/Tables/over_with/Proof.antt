@@ -1,3 +1,4 @@
+-- By the contract of `endings::over_with`, its tables taken over.
 use mathlib.Core.Path.{ap, _∙_}
 use Rattle.services.specs.Kept.{tablesIn}
 use borrow.Author.Needs.{needs}
@@ -11,7 +12,7 @@ kept-in-requires : tie.Need-kept-in-requires
 kept-in-requires c κs = search needs
 
 returns : tie.Need-returns
-returns c = (c .kept-in) .ensures ∙ ap tablesIn ((c .before .over-with) .ensures)
+returns c = c .kept-in .ensures ∙ ap tablesIn ((c .before .over-with) .ensures)
 
 pub over-with-spec : {M : Type 1} → statement M
 over-with-spec = tie.close (tie.spec over-with-requires kept-in-requires returns)

@@ -1,3 +1,4 @@
+-- Case by case of the verdict: the service's answer, a refusal, a program error.
 use mathlib.Core.Path.{sym, ap, _∙_}
 use Rattle.kinds.specs.declared.replies.Verdict.{Verdict}
 use Rattle.services.specs.Kept.{said, settledIn}
@@ -22,15 +23,27 @@ failed-requires c κs = (c .before .before .before .pre)
 
 returns : tie.Need-returns
 unfolding settledIn
-returns c = ap (λ (v : Verdict). settledIn v ((c .before .before .args) .self) ((c .before .before .args) .caller) (said ((c .before .before .args) .next))) (sym ((c .enum-told) .given .1))
+returns c =
+    let a = c .before .before .args in
+    ap (λ (v : Verdict). settledIn v (a .self) (a .caller) (said (a .next))) (sym (c .enum-told .given .1))
 
 returns-2 : tie.Need-returns-2
 unfolding settledIn
-returns-2 c = (c .refused) .ensures ∙ ap (λ (v : Verdict). settledIn v ((c .before .before .before .before .args) .self) ((c .before .before .before .before .args) .caller) (said ((c .before .before .before .before .args) .next))) (sym ((c .before .before .verdict) .given .1))
+returns-2 c =
+    let g = c .before .before .before .before .args in
+    let a = g in
+    c .refused .ensures ∙ ap (λ (v : Verdict). settledIn v (a .self) (a .caller) (said (a .next)))
+    (sym ((c .before .before .verdict) .given .1))
 
 returns-3 : tie.Need-returns-3
 unfolding settledIn
-returns-3 c = (c .failed) .ensures ∙ ap (λ (v : Verdict). settledIn v ((c .before .before .before .before .args) .self) ((c .before .before .before .before .args) .caller) (said ((c .before .before .before .before .args) .next))) (sym ((c .before .before .verdict2) .given .1))
+returns-3 c =
+    let g = c .before .before .before .before .args in
+    let a = g in
+    c .failed .ensures ∙ ap (λ (v : Verdict). settledIn v (a .self) (a .caller) (said (a .next)))
+    (sym ((c .before .before .verdict2) .given .1))
 
 pub settled-spec : {M : Type 1} → statement M
-settled-spec = tie.close (tie.spec enum-told enum-known-verdict refused-requires enum-known-verdict-2 failed-requires returns returns-2 returns-3)
+settled-spec =
+    tie.close (tie.spec enum-told enum-known-verdict refused-requires enum-known-verdict-2 failed-requires returns
+    returns-2 returns-3)

@@ -1,4 +1,5 @@
-use Prim.Native.Nat.{ℕ, _+_, _≤_, _-_}
+-- The first i ECBs are swept (invariant); the ECBs left to sweep fall (measure).
+use Prim.Native.Nat.{ℕ, _+_, _-_}
 use mathlib.Core.Path.{_≡_, refl, ap, _∙_}
 use mathlib.Core.List.{List}
 use native.Mathlib.Omega.{arith}
@@ -20,13 +21,14 @@ abbrev stays : Family → ℕ → Ecb → Ecb
 stays f n x = waiterStays (f .places) x
 
 abbrev Inv-loop : tie.InvT-loop
-Inv-loop f r₀ i₀ r i = (i ≤ allEcbs) × (length (r₀ .ecbs) ≡ allEcbs) × (length (r .ecbs) ≡ allEcbs) × (r .ecbs ≡ upTo (stays f) 0 i (r₀ .ecbs))
+Inv-loop f r₀ i₀ r i =
+    (length (r₀ .ecbs) ≡ allEcbs) × (length (r .ecbs) ≡ allEcbs) × (r .ecbs ≡ upTo (stays f) 0 i (r₀ .ecbs))
 
 abbrev μ-loop : tie.MeasureT-loop
 μ-loop f r₀ i₀ r i = allEcbs - i
 
 loop-holds : tie.Need-loop-holds Inv-loop μ-loop
-loop-holds c = (omega arith, search (needs, mapped-length), search (needs, mapped-length), refl)
+loop-holds c = (search (needs, mapped-length), search (needs, mapped-length), refl)
 
 mul-x : tie.Need-mul-x Inv-loop μ-loop
 mul-x c = omega arith
@@ -51,37 +53,26 @@ loop-less c = omega arith
 
 loop-again : tie.Need-loop-again Inv-loop μ-loop
 loop-again c =
-    let l = (c .before .before .before .loop) in
-    let f = (c .before .before .before .before .args) .f in
-    let y = (c .waiter-stays) .result in
-    let n : l .i ≡ 0 + l .i = omega arith in (
-      omega arith,
-      omega arith,
-      omega (arith, length-set (l .r .ecbs) (l .i) y),
-      ap (λ (es : List Ecb). set es (l .i) y) (l .inv .3)
-          ∙ upTo-next (stays f) 0 (l .i) (l .i) ((c .before .before .before .before .args) .e .ecbs) noEcb y (omega arith) n
-          ((c .waiter-stays) .ensures ∙ ap (λ (es : List Ecb). waiterStays (f .places) (getD es (l .i) noEcb)) (l .inv .3)),
+    let b = c .before .before .before in
+    let l = b .loop in
+    let a = b .before .args in
+    let w = c .waiter-stays in
+    let n : l .i ≡ 0 + l .i = omega arith in
+    let e = w .ensures ∙ ap (λ (es : List Ecb). waiterStays (a .f .places) (getD es (l .i) noEcb)) (l .inv .2) in (
+      l .inv .0,
+      omega (arith, length-set (l .r .ecbs) (l .i) (w .result)),
+      ap (λ (es : List Ecb). set es (l .i) (w .result)) (l .inv .2)
+          ∙ upTo-next (stays (a .f)) 0 (l .i) (l .i) (a .e .ecbs) noEcb (w .result) (omega arith) n e,
     )
 
 returns : tie.Need-returns Inv-loop μ-loop
 returns c =
-    let l = (c .before .loop) in
-    let f = (c .before .before .args) .f in
-    ap eventsOf (l .inv .3 ∙ upTo-end (stays f) 0 (l .i) ((c .before .before .args) .e .ecbs) (omega arith) ∙ mapAt-plain (waiterStays (f .places)) 0 ((c .before .before .args) .e .ecbs))
+    let l = c .before .loop in
+    let a = c .before .before .args in
+    let e = upTo-end (stays (a .f)) 0 (l .i) (a .e .ecbs) (omega arith) in
+    ap eventsOf (l .inv .2 ∙ e ∙ mapAt-plain (waiterStays (a .f .places)) 0 (a .e .ecbs))
 
 pub sweep-spec : {M : Type 1} → statement M
 sweep-spec =
-    tie.close
-    (tie.spec
-    Inv-loop
-    μ-loop
-    loop-holds
-    mul-x
-    element-copy-out-x
-    waiter-stays-requires
-    mul-y
-    element-set-from-y
-    add-i
-    loop-less
-    loop-again
-    returns)
+    tie.close (tie.spec Inv-loop μ-loop loop-holds mul-x element-copy-out-x waiter-stays-requires mul-y
+    element-set-from-y add-i loop-less loop-again returns)

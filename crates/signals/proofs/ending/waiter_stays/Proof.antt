@@ -1,5 +1,5 @@
-use mathlib.Core.Path.{sym, _∙_}
-use Rattle.lists.specs.Pick.{pick-true, pick-false}
+-- Each return cites the test of whether the waiter is live.
+use Rattle.lists.specs.Pick.{chosen}
 use Rattle.rules.specs.Ending.{waiterStays}
 use borrow.Author.Needs.{needs}
 use Rattle.signals.proofs.ending.waiter_stays.Statement.{statement}
@@ -10,11 +10,11 @@ is-live-requires c κs = search needs
 
 returns : tie.Need-returns
 unfolding waiterStays
-returns c = sym (pick-true _ _ _ (sym ((c .before .is-live) .ensures) ∙ (c .if1) .taken))
+returns c = search chosen
 
 returns-2 : tie.Need-returns-2
 unfolding waiterStays
-returns-2 c = sym (pick-false _ _ _ (sym ((c .before .is-live) .ensures) ∙ (c .if1) .left))
+returns-2 c = search chosen
 
 pub waiter-stays-spec : {M : Type 1} → statement M
 waiter-stays-spec = tie.close (tie.spec is-live-requires returns returns-2)

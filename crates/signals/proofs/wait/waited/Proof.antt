@@ -1,7 +1,6 @@
-use mathlib.Core.Path.{sym, _∙_}
-use Rattle.rules.specs.Wait.{waitVerdict}
-use Rattle.events.specs.Blocks.{ecbsIn}
-use Rattle.signals.specs.Served.{waitedIn}
+-- Each return cites the verdict and, where it goes on, the contract of `waiting`.
+use mathlib.Core.Path.{_≡_, sym, _∙_}
+use Rattle.kinds.specs.declared.replies.Verdict.the-variants.{Go}
 use Rattle.signals.proofs.Serving.{goes, refuses, fails}
 use borrow.Author.Needs.{needs}
 use Rattle.signals.proofs.wait.waited.Statement.{statement}
@@ -14,7 +13,10 @@ enum-told : tie.Need-enum-told
 enum-told c = search needs
 
 waiting-requires : tie.Need-waiting-requires
-waiting-requires c κs = ((c .before .before .before .pre), sym ((c .before .before .wait-verdict) .ensures) ∙ search needs)
+waiting-requires c κs =
+    let w = c .before .before .wait-verdict in
+    let g : w .result ≡ Go = search needs in
+    (c .before .before .before .pre, sym (w .ensures) ∙ g)
 
 enum-known-why : tie.Need-enum-known-why
 enum-known-why c = search needs
@@ -30,30 +32,17 @@ unchanged-requires-2 c κs = search needs
 
 returns : tie.Need-returns
 returns c =
-    goes (waitVerdict ((c .before .before .before .before .args) .e .ecbs) (ecbsIn ((c .before .before .before .before .args) .ecbs)) ((c .before .before .before .before .args) .count)) (waitedIn ((c .before .before .before .before .args) .f .places) ((c .before .before .before .before .args) .e .ecbs) ((c .before .before .before .before .args) .caller .0) (ecbsIn ((c .before .before .before .before .args) .ecbs)) ((c .before .before .before .before .args) .count)) ((c .before .before .before .before .args) .e) ((c .before .before .before .before .args) .f) _
-    (sym ((c .before .before .before .wait-verdict) .ensures) ∙ search needs) ((c .waiting) .ensures)
+    let w = c .before .before .before .wait-verdict in
+    let g : w .result ≡ Go = search needs in
+    goes _ _ _ _ _ (sym g ∙ w .ensures) (c .waiting .ensures)
 
 returns-2 : tie.Need-returns-2
-returns-2 c =
-    refuses (waitVerdict ((c .before .before .before .before .before .args) .e .ecbs) (ecbsIn ((c .before .before .before .before .before .args) .ecbs)) ((c .before .before .before .before .before .args) .count)) (waitedIn ((c .before .before .before .before .before .args) .f .places) ((c .before .before .before .before .before .args) .e .ecbs) ((c .before .before .before .before .before .args) .caller .0) (ecbsIn ((c .before .before .before .before .before .args) .ecbs)) ((c .before .before .before .before .before .args) .count)) ((c .before .before .before .before .before .args) .e) ((c .before .before .before .before .before .args) .f) _ _
-    (sym ((c .before .before .before .before .wait-verdict) .ensures) ∙ (c .before .before .why) .given .1) ((c .unchanged) .ensures)
+returns-2 c = refuses _ _ _ _ _ _ (cc) (c .unchanged .ensures)
 
 returns-3 : tie.Need-returns-3
-returns-3 c =
-    fails (waitVerdict ((c .before .before .before .before .before .args) .e .ecbs) (ecbsIn ((c .before .before .before .before .before .args) .ecbs)) ((c .before .before .before .before .before .args) .count)) (waitedIn ((c .before .before .before .before .before .args) .f .places) ((c .before .before .before .before .before .args) .e .ecbs) ((c .before .before .before .before .before .args) .caller .0) (ecbsIn ((c .before .before .before .before .before .args) .ecbs)) ((c .before .before .before .before .before .args) .count)) ((c .before .before .before .before .before .args) .e) ((c .before .before .before .before .before .args) .f) _ _
-    (sym ((c .before .before .before .before .wait-verdict) .ensures) ∙ (c .before .before .what) .given .1) ((c .unchanged2) .ensures)
+returns-3 c = fails _ _ _ _ _ _ (cc) (c .unchanged2 .ensures)
 
 pub waited-spec : {M : Type 1} → statement M
 waited-spec =
-    tie.close
-    (tie.spec
-    wait-verdict-requires
-    enum-told
-    waiting-requires
-    enum-known-why
-    unchanged-requires
-    enum-known-what
-    unchanged-requires-2
-    returns
-    returns-2
-    returns-3)
+    tie.close (tie.spec wait-verdict-requires enum-told waiting-requires enum-known-why unchanged-requires
+    enum-known-what unchanged-requires-2 returns returns-2 returns-3)

@@ -1,7 +1,10 @@
-use mathlib.Core.Path.{refl}
+-- Each return cites how many listed ECBs are complete; a count that goes on is at most 16, so it fits.
 use native.Mathlib.Omega.{arith}
-use Rattle.events.specs.Blocks.{ecbsIn}
-use Rattle.signals.proofs.Serving.{wait-few, goes-on, waits-on}
+use borrow.Author.Tests.{le-leb, lt-leb}
+use Rattle.lists.specs.Pick.{pick}
+use Rattle.signals.specs.Posts.{signalsOf}
+use Rattle.signals.specs.Served.{waitedIn}
+use Rattle.signals.proofs.Serving.{wait-few}
 use borrow.Author.Needs.{needs}
 use Rattle.signals.proofs.wait.waiting.Statement.{statement}
 use Rattle.signals.proofs.wait.waiting.Tie as tie
@@ -10,13 +13,16 @@ complete-of-requires : tie.Need-complete-of-requires
 complete-of-requires c κs = search needs
 
 returns : tie.Need-returns
-returns c = goes-on ((c .before .before .args) .e .ecbs) ((c .before .before .args) .f .places) ((c .before .before .args) .caller .0) (ecbsIn ((c .before .before .args) .ecbs)) ((c .before .before .args) .count) _ ((c .before .complete-of) .ensures) ((c .before .before .args) .e) ((c .before .before .args) .f) refl refl ((c .if1) .taken)
+unfolding signalsOf waitedIn pick
+returns c = rw (← c .before .complete-of .ensures, le-leb _ _ (c .if1 .taken))
 
 sub-posts : tie.Need-sub-posts
 sub-posts c = search needs
 
 cast-posts : tie.Need-cast-posts
-cast-posts c = omega (arith, wait-few ((c .before .before .args) .e .ecbs) ((c .before .before .args) .ecbs) ((c .before .before .args) .count) ((c .before .before .pre) .1))
+cast-posts c =
+    let a = c .before .before .args in
+    omega (arith, wait-few (a .e .ecbs) (a .ecbs) (a .count) (c .before .before .pre .1))
 
 wait-set-requires : tie.Need-wait-set-requires
 wait-set-requires c κs = search needs
@@ -31,18 +37,19 @@ with-place-requires : tie.Need-with-place-requires
 with-place-requires c κs = search needs
 
 returns-2 : tie.Need-returns-2
-returns-2 c = waits-on ((c .before .before .before .before .before .before .args) .e .ecbs) ((c .before .before .before .before .before .before .args) .f .places) ((c .before .before .before .before .before .before .args) .caller .0) (ecbsIn ((c .before .before .before .before .before .before .args) .ecbs)) ((c .before .before .before .before .before .before .args) .count) _ ((c .before .before .before .before .before .complete-of) .ensures) _ _ _ _ ((c .before .before .before .before .if1) .left) ((c .before .before .before .wait-set) .ensures) ((c .before .before .at) .ensures) ((c .before .with-condition) .ensures) ((c .with-place) .ensures)
+unfolding signalsOf waitedIn pick
+returns-2 c =
+    let b = c .before .before .before in
+    rw (
+      ← b .before .before .complete-of .ensures,
+      lt-leb _ _ (b .before .if1 .left),
+      b .wait-set .ensures,
+      c .with-place .ensures,
+      c .before .with-condition .ensures,
+      c .before .before .at .ensures,
+    )
 
 pub waiting-spec : {M : Type 1} → statement M
 waiting-spec =
-    tie.close
-    (tie.spec
-    complete-of-requires
-    returns
-    sub-posts
-    cast-posts
-    wait-set-requires
-    at-requires
-    with-condition-requires
-    with-place-requires
-    returns-2)
+    tie.close (tie.spec complete-of-requires returns sub-posts cast-posts wait-set-requires at-requires
+    with-condition-requires with-place-requires returns-2)

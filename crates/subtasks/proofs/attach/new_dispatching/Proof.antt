@@ -1,3 +1,4 @@
+-- Each return holds the sum as the machine reads it, which is the sum itself.
 use mathlib.Core.Path.{_≡_, sym, ap, _∙_}
 use lib.IntN.{pos, natAbs, _+ℤ_}
 use mir.Syntax.{w32}
@@ -10,7 +11,9 @@ use Rattle.subtasks.proofs.attach.new_dispatching.Statement.{statement}
 use Rattle.subtasks.proofs.attach.new_dispatching.Tie as tie
 
 -- held as the machine reads the numbers, and as they are
-same : (c : tie.Start) → heldTo (pos 0) (toZ w32 (c .args .limit)) (toZ w32 (ofZ w32 (added (c .args .dispatching) (c .args .dpmod)))) ≡ heldTo (pos 0) (pos (c .args .limit)) (pos (c .args .dispatching) +ℤ c .args .dpmod)
+same : (c : tie.Start)
+    → heldTo (pos 0) (toZ w32 (c .args .limit)) (toZ w32 (ofZ w32 (added (c .args .dispatching) (c .args .dpmod))))
+    ≡ heldTo (pos 0) (pos (c .args .limit)) (pos (c .args .dispatching) +ℤ c .args .dpmod)
 same c = λ i. heldTo (pos 0) (read-u8 (c .fits .limit) i) (sum-read (c .fits .dispatching) (c .fits .dpmod) i)
 
 cast-sum : tie.Need-cast-sum
@@ -31,10 +34,14 @@ cast-if2 c = search needs
 
 returns-2 : tie.Need-returns-2
 unfolding newDispatching
-returns-2 c = ap natAbs (sym (read-u8 (c .before .before .fits .limit)) ∙ sym (held-high _ _ _ (c .before .if1 .left) (c .if2 .taken)) ∙ same (c .before .before))
+returns-2 c =
+    let l = read-u8 (c .before .before .fits .limit) in
+    ap natAbs (sym l ∙ sym (held-high _ _ _ (c .before .if1 .left) (c .if2 .taken)) ∙ same (c .before .before))
 
 cast-result : tie.Need-cast-result
-cast-result c = within _ _ (c .before .before .fits .limit) (read-u8 (c .before .before .fits .limit)) (c .before .if1 .left) (c .if2 .left)
+cast-result c =
+    let l = c .before .before .fits .limit in
+    within _ _ l (read-u8 l) (c .before .if1 .left) (c .if2 .left)
 
 returns-3 : tie.Need-returns-3
 unfolding newDispatching
@@ -42,5 +49,4 @@ returns-3 c = ap natAbs (sym (held-between _ _ _ (c .before .if1 .left) (c .if2 
 
 pub new-dispatching-spec : {M : Type 1} → statement M
 new-dispatching-spec =
-    tie.close
-    (tie.spec cast-sum cast-sum-2 add-sum returns cast-if2 returns-2 cast-result returns-3)
+    tie.close (tie.spec cast-sum cast-sum-2 add-sum returns cast-if2 returns-2 cast-result returns-3)

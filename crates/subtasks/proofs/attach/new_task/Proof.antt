@@ -1,8 +1,7 @@
-use mathlib.Core.Path.{_∙_}
+-- The two priorities are what the contracts of their calls say, with DPMOD as the machine reads it.
 use mir.Facts.{toZ-ofZ}
-use Rattle.rules.specs.Attach.{newTask, newDispatching}
-use Rattle.kinds.specs.declared.tasks.Condition.the-variants.{Ready}
 use borrow.Author.Needs.{needs}
+use Rattle.rules.specs.Attach.{newTask}
 use Rattle.subtasks.proofs.attach.new_task.Statement.{statement}
 use Rattle.subtasks.proofs.attach.new_task.Tie as tie
 
@@ -14,15 +13,7 @@ new-dispatching-requires c κs = search needs
 
 returns : tie.Need-returns
 unfolding newTask
-returns c =
-    let a = (c .before .before .args) in
-    λ i. record {
-      condition = Ready;
-      mother = a .c;
-      limit = (c .before .new-limit) .ensures i;
-      dispatching = ((c .new-dispatching) .ensures ∙ (λ j. newDispatching (a .m .dispatching) (toZ-ofZ ((c .before .before .fits) .dpmod) j) ((c .before .new-limit) .ensures j))) i;
-      ecb = a .ecb;
-    }
+returns c = rw (c .new-dispatching .ensures, toZ-ofZ (c .before .before .fits .dpmod), c .before .new-limit .ensures)
 
 pub new-task-spec : {M : Type 1} → statement M
 new-task-spec = tie.close (tie.spec new-limit-requires new-dispatching-requires returns)

@@ -1,5 +1,4 @@
-use mathlib.Core.Path.{ap, _∙_}
-use Rattle.rules.specs.Family.{isSubtaskOf}
+-- The place is what `at` reads, and the test is that of the place.
 use borrow.Author.Needs.{needs}
 use Rattle.subtasks.proofs.direct.is_subtask.Statement.{statement}
 use Rattle.subtasks.proofs.direct.is_subtask.Tie as tie
@@ -11,7 +10,7 @@ is-subtask-of-requires : tie.Need-is-subtask-of-requires
 is-subtask-of-requires c κs = search needs
 
 returns : tie.Need-returns
-returns c = (c .is-subtask-of) .ensures ∙ ap (isSubtaskOf ((c .before .before .args) .c .0)) ((c .before .at) .ensures)
+returns c = rw (← c .before .at .ensures) (c .is-subtask-of .ensures)
 
 pub is-subtask-spec : {M : Type 1} → statement M
 is-subtask-spec = tie.close (tie.spec at-requires is-subtask-of-requires returns)

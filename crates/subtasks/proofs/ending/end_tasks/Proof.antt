@@ -1,17 +1,22 @@
-use mathlib.Core.Path.{_≡_, sym, ap, _∙_}
-use mathlib.Core.Bool.{true, false}
-use borrow.Author.Tests.{not-true, not-false}
+-- A number of no task in use changes nothing; else the task goes with all below it, and its place becomes `last`.
+use mathlib.Core.Path.{_≡_, ap, _∙_}
+use mathlib.Core.Bool.{true}
 use lib.ListN.{length}
-use Rattle.lists.specs.Arrays.{mapped-length}
-use Rattle.rules.specs.Family.{withPlace}
-use Rattle.laws.specs.Chains.{used-pos, used-within}
-use Rattle.family.specs.declared.Family.{Family}
-use Rattle.family.specs.Families.{familyOf}
-use Rattle.family.proofs.Chains.{use-of}
-use Rattle.subtasks.proofs.Freeing.{ends-none, ends-in}
 use borrow.Author.Needs.{needs}
+use Rattle.lists.specs.Arrays.{mapped-length}
+use Rattle.kinds.specs.Limits.{highestTask}
+use Rattle.rules.specs.Family.{used}
+use Rattle.family.specs.Families.{familyOf}
+use Rattle.subtasks.proofs.Freeing.{read-free, read-used, in-places, ends-none, ends-in}
 use Rattle.subtasks.proofs.ending.end_tasks.Statement.{statement}
 use Rattle.subtasks.proofs.ending.end_tasks.Tie as tie
+
+long : (c : tie.Start) → length (c .args .f .places) ≡ highestTask
+long c = search (needs, mapped-length)
+
+-- a task that goes on is in use
+going : (c : tie.Else1) → let a = c .before .before .before .args in used (a .f .places) (a .c .0) ≡ true
+going c = read-used _ _ (c .before .before .at .ensures) (c .before .in-use .ensures) (c .if1 .left)
 
 at-requires : tie.Need-at-requires
 at-requires c κs = search needs
@@ -21,34 +26,21 @@ in-use-requires c κs = search needs
 
 returns : tie.Need-returns
 returns c =
-    let a = (c .before .before .before .args) in
-    let ts = a .f .places in
-    ap familyOf (ends-none ts (a .c .0) (use-of ts (a .c .0) ((c .before .before .at) .result) ((c .before .before .at) .ensures) false (sym ((c .before .in-use) .ensures) ∙ not-true _ ((c .if1) .taken))) (a .last))
+    let f = read-free _ _ (c .before .before .at .ensures) (c .before .in-use .ensures) (c .if1 .taken) in
+    ap familyOf (ends-none _ _ f _)
 
 end-task-requires : tie.Need-end-task-requires
 end-task-requires c κs = search needs
 
 with-place-requires : tie.Need-with-place-requires
-with-place-requires c κs =
-    let a = (c .before .before .before .before .args) in
-    let ts = a .f .places in
-    let u = use-of ts (a .c .0) ((c .before .before .before .at) .result) ((c .before .before .before .at) .ensures) true (sym ((c .before .before .in-use) .ensures) ∙ not-false _ ((c .before .if1) .left)) in
-    let l : length ts ≡ 32 = search (needs, mapped-length) in
-    let low = used-pos ts (a .c .0) u in
-    let high = used-within ts (a .c .0) u in
-    search needs
+with-place-requires c κs = in-places _ _ (long (c .before .before .before .before)) (going (c .before))
 
 returns-2 : tie.Need-returns-2
 returns-2 c =
-    let a = (c .before .before .before .before .before .args) in
-    let ts = a .f .places in
-    let u = use-of ts (a .c .0) ((c .before .before .before .before .at) .result) ((c .before .before .before .before .at) .ensures) true (sym ((c .before .before .before .in-use) .ensures) ∙ not-false _ ((c .before .before .if1) .left)) in
-    let l : length ts ≡ 32 = search (needs, mapped-length) in
-    (c .with-place) .ensures
-    ∙ ap (λ (g : Family). familyOf (withPlace (g .places) (a .c .0) (a .last))) ((c .before .end-task) .ensures)
-    ∙ ap familyOf (ends-in ts (a .c .0) u l (a .last))
+    let e = c .before .before in
+    let w = rw (c .before .end-task .ensures) at (c .with-place .ensures) in
+    w ∙ ap familyOf (ends-in _ _ (going e) (long (e .before .before .before)) _)
 
 pub end-tasks-spec : {M : Type 1} → statement M
 end-tasks-spec =
-    tie.close
-    (tie.spec at-requires in-use-requires returns end-task-requires with-place-requires returns-2)
+    tie.close (tie.spec at-requires in-use-requires returns end-task-requires with-place-requires returns-2)

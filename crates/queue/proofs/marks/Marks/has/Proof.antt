@@ -1,7 +1,10 @@
+-- What lies past the marks has none, by the length of their array.
 use mathlib.Core.Path.{_≡_, sym}
 use mathlib.Core.Bool.{false}
+use Prim.Native.Nat.{_+_}
 use lib.ListN.{length, List·getD-eq-default}
 use Rattle.lists.specs.Arrays.{mapped-length}
+use Rattle.kinds.specs.Limits.{highestTask}
 use native.Mathlib.Omega.{arith}
 use borrow.Author.Needs.{needs}
 use Rattle.queue.proofs.marks.Marks.has.Statement.{statement}
@@ -12,8 +15,9 @@ cast-k c = search needs
 
 returns : tie.Need-returns
 returns c =
-    let h : length ((c .before .before .args) .t1 .tasks) ≡ 33 = search (needs, mapped-length) in
-    sym (List·getD-eq-default ((c .before .before .args) .t1 .tasks) false (omega arith))
+    let a = c .before .before .args in
+    let h : length (a .t1 .tasks) ≡ highestTask + 1 = search (needs, mapped-length) in
+    sym (List·getD-eq-default (a .t1 .tasks) false (omega arith))
 
 element-copy-out-result : tie.Need-element-copy-out-result
 element-copy-out-result c = search needs

@@ -1,0 +1,54 @@
+-- Loops that look at the first n of an array until one decides: the answer is that of what is left, from place i on.
+-- The records' types tell the test, the array and the places, so that a proof cites the invariant and no more.
+use mathlib.Core.Path.{_≡_, refl, sym, ap, _∙_}
+use mathlib.Core.Bool.{Bool, true, false, not}
+use mathlib.Core.List.{List, map}
+use Prim.Native.Nat.{ℕ, _+_, _≤_, _<_}
+use lib.ListN.{length, getD, take}
+use lib.Seq.{slice}
+use borrow.Author.Tests.{not-true, not-false}
+use Rattle.lists.specs.Lists.{every, some}
+use Rattle.lists.specs.Every.{every-fails, every-goes, every-end, every-of, some-here, some-later, some-end}
+use Rattle.lists.specs.Keeping.{take-map}
+
+-- all pass
+pub record All {A : Type 0} (f : A → Bool) (l : List A) (i n : ℕ) : Type 0 where
+  pub left : every f (take n l) ≡ every f (slice i n l)
+
+pub all-start : {A : Type 0} {f : A → Bool} {l : List A} {n : ℕ} → All f l 0 n
+all-start = record { left = refl }
+
+module _ {A : Type 0} {f : A → Bool} {l : List A} {i n : ℕ} (v : All f l i n) where
+  pub all-over : i ≡ n → true ≡ every f (take n l)
+  all-over e = sym (v .left ∙ every-end f i n l e)
+
+  -- the element at place i, whose test came out as b
+  module _ (h : i < n) (k : n ≤ length l) (d : A) {b : Bool} (t : b ≡ f (getD l i d)) where
+    pub all-stops : not b ≡ true → false ≡ every f (take n l)
+    all-stops e = sym (v .left ∙ every-fails f i n l d h k (sym t ∙ not-true b e))
+
+    pub all-goes-on : not b ≡ false → All f l (i + 1) n
+    all-goes-on e = record { left = v .left ∙ every-goes f i n l d h k (sym t ∙ not-false b e) }
+
+-- all that the first n of an array show pass
+pub all-shown : {A B : Type 0} (view : A → B) (f : B → Bool) (n : ℕ) (l : List A)
+    → every (λ (x : A). f (view x)) (take n l) ≡ every f (take n (map view l))
+all-shown view f n l = sym (ap (every f) (take-map view n l) ∙ every-of view f (take n l))
+
+-- some passes
+pub record Any {A : Type 0} (f : A → Bool) (l : List A) (i n : ℕ) : Type 0 where
+  pub left : some f (take n l) ≡ some f (slice i n l)
+
+pub any-start : {A : Type 0} {f : A → Bool} {l : List A} {n : ℕ} → Any f l 0 n
+any-start = record { left = refl }
+
+module _ {A : Type 0} {f : A → Bool} {l : List A} {i n : ℕ} (v : Any f l i n) where
+  pub any-over : i ≡ n → false ≡ some f (take n l)
+  any-over e = sym (v .left ∙ some-end f i n l e)
+
+  module _ (h : i < n) (k : n ≤ length l) (d : A) {b : Bool} (t : b ≡ f (getD l i d)) where
+    pub any-found : b ≡ true → true ≡ some f (take n l)
+    any-found e = sym (v .left ∙ some-here f i n l d h k (sym t ∙ e))
+
+    pub any-goes-on : b ≡ false → Any f l (i + 1) n
+    any-goes-on e = record { left = v .left ∙ some-later f i n l d h k (sym t ∙ e) }

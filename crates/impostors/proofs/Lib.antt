@@ -23,3 +23,4 @@ pub mod OfServices
 pub mod Real
 pub mod Impostors
 pub mod Slips
+pub mod Demands

@@ -116,7 +116,7 @@ pub fn enq_verdict(q: Queue, caller: TaskNumber, ret: Ret, l: NameList, room: us
         return Verdict::Refuse(Refusal::OutOfRange);
     }
     if enq_short(ret, l, room) {
-        return Verdict::Refuse(Refusal::ShortCodes);
+        return Verdict::Refuse(Refusal::ShortArea);
     }
     if duplicated(q, caller, ret, l) {
         return Verdict::Fail(Fault::DuplicateEnq);
@@ -136,7 +136,7 @@ pub fn deq_verdict(q: Queue, caller: TaskNumber, ret: DeqRet, l: NameList, room:
         return Verdict::Refuse(Refusal::OutOfRange);
     }
     if deq_short(ret, l, room) {
-        return Verdict::Refuse(Refusal::ShortCodes);
+        return Verdict::Refuse(Refusal::ShortArea);
     }
     if unentered(q, caller, ret, l) {
         return Verdict::Fail(Fault::DeqWithoutEntry);

@@ -3,16 +3,20 @@ use Prim.Native.Nat.{ℕ}
 use mathlib.Core.Path.{_≡_, refl, sym, ap, _∙_, subst}
 use mathlib.Core.Bool.{Bool, true, false}
 use mathlib.Core.List.{List, [], _∷_}
-use Rattle.lists.specs.Pick.{pick}
+use denote.Ref.{now}
+use Rattle.lists.specs.Pick.{pick, pick-true}
 use Rattle.kinds.specs.Replies.{numberOf, Besides, valueOf, besidesIn}
-use Rattle.kinds.specs.declared.replies.Reply.the-variants.{Done}
+use Rattle.kinds.specs.declared.replies.Reply.the-variants.{Done, Counted}
+use Rattle.kinds.proofs.Once.{reply-once}
 use Rattle.rules.specs.Steps.{Step, Outcome, Served, keptBy, untouched}
 use Rattle.rules.specs.Fresh.{freshOf}
 use Rattle.rules.specs.Serve.{Asked, serviceOf, serveOf}
-use Rattle.rules.specs.Reading.{Turn}
+use Rattle.rules.specs.Reading.{Turn, nothing, oneAtATime}
+use Rattle.rules.specs.Reports.{stuckTasks, stuckReport}
 use Rattle.rules.specs.DemandThree.{Run, stop as ends, turn, turnOf, Fresh, Demand3}
 use Rattle.laws.specs.Served.{sound-served}
 use Rattle.history.proofs.Demand.{demand-three}
+use Rattle.history.proofs.NobodyStuck.{nobody-stuck, nobody-stuck-report}
 use Rattle.services.specs.Kept.{stepOf, tablesOf, said, saidWith, servedBy, soundb, answered, answeredWith}
 use Rattle.services.specs.Serve.{servedOf}
 use Rattle.services.specs.declared.Tables.{Tables}
@@ -21,6 +25,7 @@ use Rattle.services.proofs.Glue.{sound-step}
 use Rattle.services.proofs.Leaves.{step-tables, fresh-leaves-sound}
 use Rattle.services.proofs.Serves.{sound-serves, serve-leaves-sound}
 use Rattle.services.proofs.Tables.fresh.Reads as fresh
+use Rattle.services.proofs.Tables.stuck.Reads as stuck
 use Rattle.calls.specs.Called.{Called}
 use Rattle.calls.specs.Calls.{Call, served, attached, detached, ended, abended, enqueued, dequeued, waited}
 use Rattle.calls.specs.Calls.{posted, cleared, got, freed, dispatched, seenOf, Calls, stop, call}
@@ -90,6 +95,10 @@ calls-run (call {t} {u} {us} {a} {r} {codes} c k) h =
     (turn a (subst (λ (s : Step). Run s us (stepOf u)) (leaves t a r codes h e)
     (calls-run k (sound-after t a r codes h e))))
 
+calls-sound : {t u : Tables} {us : List Turn} → Calls t us u → soundb t ≡ true → soundb u ≡ true
+calls-sound stop h = h
+calls-sound (call {t} {u} {us} {a} {r} {codes} c k) h = calls-sound k (sound-after t a r codes h (promises c))
+
 -- DEMAND 3
 module _ (f : Called fresh.Post) (z : f .result .reply ≡ Done) where
   abbrev begun : Outcome Step
@@ -106,8 +115,28 @@ module _ (f : Called fresh.Post) (z : f .result .reply ≡ Done) where
     };
   }
 
+  sound-start : soundb (f .result .tables) ≡ true
+  sound-start =
+      ap (λ (o : Outcome Tables). soundb (o .tables)) (fresh-promises f)
+      ∙ fresh-leaves-sound (f .given .0) (f .given .1 .0)
+
   pub calls-demand-three : {t : Tables} {us : List Turn} → Calls (f .result .tables) us t → Demand3 us (stepOf t)
   calls-demand-three {t} {us} k =
-      demand-three (stepOf (f .result .tables)) (stepOf t) us begins
-      (calls-run k (ap (λ (o : Outcome Tables). soundb (o .tables)) (fresh-promises f)
-      ∙ fresh-leaves-sound (f .given .0) (f .given .1 .0)))
+      demand-three (stepOf (f .result .tables)) (stepOf t) us begins (calls-run k sound-start)
+
+  -- NOBODY IS STUCK where the calls kept the habit, and the report of document 02 §1 says so
+  module _ {t : Tables} {us : List Turn} (k : Calls (f .result .tables) us t) (habit : oneAtATime nothing us ≡ true)
+    where
+      pub calls-nobody-stuck : stuckTasks (stepOf t .queue) ≡ []
+      calls-nobody-stuck = nobody-stuck _ (stepOf t) us begins (calls-run k sound-start) habit
+
+      pub calls-stuck-says-none : (c : Called stuck.Post) → c .given .0 ≡ t → t .over ≡ false
+          → c .result .reply ≡ Counted 0
+      unfolding answeredWith
+      calls-stuck-says-none c e o =
+          let area = now (c .given .1 .0) in
+          let h = c .meets ∙ ap (λ (u : Tables). answeredWith u area stuckReport) e
+          ∙ pick-true (soundb t) _ _ (calls-sound k sound-start)
+          ∙ ap servedBy (nobody-stuck-report _ (stepOf t) us begins (calls-run k sound-start) habit area o) in
+          reply-once (c .result .reply) (Counted 0) (ap (λ (x : Served Tables). x .outcome .number) h)
+          (ap (λ (x : Served Tables). x .outcome .besides) h)

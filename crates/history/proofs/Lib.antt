@@ -25,3 +25,4 @@ pub mod Computed
 pub mod Examples
 pub mod Impostors
 pub mod Demand
+pub mod NobodyStuck

@@ -1,18 +1,19 @@
 -- A queue in which each task's entries stand together has no ring: whoever waits for another stands wholly behind him.
-use mathlib.Core.Path.{_≡_, refl, sym, ap, subst, _∙_}
-use mathlib.Core.Bool.{Bool, true, false, not, cond, _&&_, _||_, false≢true, or-true}
-use mathlib.Core.List.{List, [], _∷_, _++_, append-nil, append-assoc}
+use mathlib.Core.Path.{_≡_, sym, ap, subst, _∙_}
+use mathlib.Core.Bool.{Bool, true, false, cond, false≢true}
+use mathlib.Core.List.{List, [], _∷_, _++_}
 use mathlib.Core.Logic.{_⊎_, inl, inr}
 use Prim.Native.Nat.{ℕ, zero, suc, _≤_, _<_}
 use native.Mathlib.Omega.{arith}
 use lib.Dec.{eqb}
 use lib.ListN.{length}
-use borrow.Author.Tests.{eqb-true, eqb-false, not-true}
+use borrow.Author.Tests.{eqb-true, eqb-false, eq-eqb}
 use Rattle.lists.specs.Lists.{some}
-use Rattle.lists.specs.Bools.{both, and-right, either, decided, never}
-use Rattle.lists.specs.Every.{some-append}
-use Rattle.rules.specs.Control.{Entry, ofTask, control}
-use Rattle.rules.specs.Rings.{bars, waitsFrom, waitsFor, Leads, step, then, Ring}
+use Rattle.lists.specs.Bools.{decided, never}
+use Rattle.rules.specs.Control.{Entry, ofTask}
+use Rattle.rules.specs.Rings.{waitsFor, Leads, step, then, Ring}
+use Rattle.laws.specs.Among.{some-at}
+use Rattle.laws.specs.OnRing.{waits-at}
 use Rattle.history.proofs.Grouped.{Starts, Front, Grouped}
 
 -- RANKS: how far from the tail a task's first entry stands
@@ -33,11 +34,6 @@ rank-starts : (t : ℕ) (l : List Entry) → Starts t l → rank t l ≡ length 
 rank-starts t [] h = absurd h
 rank-starts t (e ∷ l) h = rw h
 
--- a task with an entry here
-there : (t : ℕ) (p : List Entry) (e : Entry) (r : List Entry) → ofTask t e ≡ true
-    → some (ofTask t) (p ++ (e ∷ r)) ≡ true
-there t p e r h = rw (some-append (ofTask t) p (e ∷ r), h) (or-true (some (ofTask t) p))
-
 -- of two tasks, the one with an entry before an entry of the other ranks higher
 module _ (a b : ℕ) (other : eqb a b ≡ false) where
   rank-before : (p : List Entry) (e : Entry) (r : List Entry) → Grouped (p ++ (e ∷ r)) → ofTask a e ≡ true
@@ -55,7 +51,7 @@ module _ (a b : ℕ) (other : eqb a b ≡ false) where
       one (inr u) (inl v) f ih = let k = rank-le a l in rw (u, v) (omega arith)
       one (inr u) (inr v) f ih = rw (u, v) (ih (rw v at s))
       one (inl u) (inr v) (inl n) ih =
-          never _ (there a p e r m) (subst (λ (t : ℕ). some (ofTask t) l ≡ false) (eqb-true (x .task) a u) n)
+          never _ (some-at (ofTask a) p e r m) (subst (λ (t : ℕ). some (ofTask t) l ≡ false) (eqb-true (x .task) a u) n)
       one (inl u) (inr v) (inr n) ih =
           let h : rank a l < rank b l = ih (rw v at s) in
           let j = rank-starts a l (subst (λ (t : ℕ). Starts t l) (eqb-true (x .task) a u) n) in
@@ -64,67 +60,15 @@ module _ (a b : ℕ) (other : eqb a b ≡ false) where
 
 -- RINGS
 
--- an entry of task a, somewhere behind an entry of task b
-record Behind (a b : ℕ) (before l : List Entry) : Type 0 where
-  front : List Entry
-  entry : Entry
-  back : List Entry
-  is : l ≡ front ++ (entry ∷ back)
-  mine : ofTask a entry ≡ true
-  passes : some (ofTask b) (before ++ front) ≡ true
-
-some-left : (f g : Entry → Bool) (l : List Entry) → some (λ (x : Entry). f x && g x) l ≡ true → some f l ≡ true
-some-left f g [] h = h
-some-left f g (x ∷ l) h = one (f x) (g x) h (some-left f g l)
-  where
-    one : (b c : Bool) → ((b && c) || some (λ (y : Entry). f y && g y) l) ≡ true
-        → (some (λ (y : Entry). f y && g y) l ≡ true → some f l ≡ true)
-        → (b || some f l) ≡ true
-    one true c k ih = refl
-    one false c k ih = ih k
-
-behind : (a b : ℕ) (before l : List Entry) → waitsFrom before a b l ≡ true → Behind a b before l
-behind a b before [] h = absurd (false≢true h)
-behind a b before (e ∷ l) h =
-    one (either _ (waitsFrom (before ++ (e ∷ [])) a b l) h) (behind a b (before ++ (e ∷ [])) l)
-  where
-    past : Bool
-    past = some (λ (x : Entry). ofTask b x && bars x e) before
-
-    one : ((ofTask a e && (not (control before e) && past)) ≡ true) ⊎ (waitsFrom (before ++ (e ∷ [])) a b l ≡ true)
-        → (waitsFrom (before ++ (e ∷ [])) a b l ≡ true → Behind a b (before ++ (e ∷ [])) l) → Behind a b before (e ∷ l)
-    one (inl k) ih =
-        let m = both (ofTask a e) (not (control before e) && past) k in
-        record {
-          front = [];
-          entry = e;
-          back = l;
-          is = refl;
-          mine = m .0;
-          passes =
-              ap (some _) (append-nil before)
-              ∙ some-left _ (λ (x : Entry). bars x e) before (and-right (not (control before e)) past (m .1));
-        }
-    one (inr k) ih =
-        let f = ih k in
-        record {
-          front = e ∷ f .front;
-          entry = f .entry;
-          back = f .back;
-          is = ap (λ (r : List Entry). e ∷ r) (f .is);
-          mine = f .mine;
-          passes = ap (some (ofTask b)) (sym (append-assoc before (e ∷ []) (f .front))) ∙ f .passes;
-        }
-
 module _ (q : List Entry) (g : Grouped q) where
   wait-climbs : (a b : ℕ) → waitsFor q a b ≡ true → rank a q < rank b q
-  unfolding waitsFor
   wait-climbs a b w =
-      let k = both (not (eqb a b)) (waitsFrom [] a b q) w in
-      let f = behind a b [] q (k .1) in
-      subst (λ (l : List Entry). rank a l < rank b l) (sym (f .is))
-      (rank-before a b (not-true (eqb a b) (k .0)) (f .front) (f .entry) (f .back) (subst Grouped (f .is) g) (f .mine)
-      (f .passes))
+      let f = waits-at q a b w in
+      let e = eq-eqb (f .ahead .task) b (f .theirs) in
+      subst (λ (l : List Entry). rank a l < rank b l) (sym (f .split))
+      (rank-before a b (f .other) (f .before) (f .entry) (f .after) (subst Grouped (f .split) g)
+      (eq-eqb (f .entry .task) a (f .own))
+      (ap (some (ofTask b)) (f .behind) ∙ some-at (ofTask b) (f .first) (f .ahead) (f .rest) e))
 
   leads-climbs : {a b : ℕ} → Leads q a b → rank a q < rank b q
   leads-climbs (step {a = a} {b = b} w) = wait-climbs a b w

@@ -7,7 +7,7 @@ use Rattle.kinds.specs.Replies.{faultNumber, valueOf}
 use Rattle.kinds.specs.declared.numbers.TaskNumber.{TaskNumber}
 use Rattle.kinds.specs.declared.requests.Request.{Request}
 use Rattle.kinds.specs.declared.replies.Refusal.{Refusal}
-use Rattle.kinds.specs.declared.replies.Refusal.the-variants.{Unsound, OutOfRange, NotLive, Waits, ShortCodes}
+use Rattle.kinds.specs.declared.replies.Refusal.the-variants.{Unsound, OutOfRange, NotLive, Waits, ShortArea}
 use Rattle.kinds.specs.declared.replies.Refusal.the-variants.{NoEntryFree, NoTaskFree, NoAreaFree, StepOver, WaitBitOn}
 use Rattle.kinds.specs.declared.replies.Fault.{Fault}
 use Rattle.kinds.specs.declared.replies.Gate.{Gate}
@@ -50,7 +50,7 @@ module _ (s : Step) (r : Reading) (e : Seen s r) (q : Request) (l : Names) where
   refused-follows OutOfRange = same-seen s r e
   refused-follows NotLive = same-seen s r e
   refused-follows Waits = same-seen s r e
-  refused-follows ShortCodes = same-seen s r e
+  refused-follows ShortArea = same-seen s r e
   refused-follows NoEntryFree = same-seen s r e
   refused-follows NoTaskFree = same-seen s r e
   refused-follows NoAreaFree = same-seen s r e

@@ -2,6 +2,7 @@ pub mod OfLists
 pub mod OfKinds
 pub mod OfNames
 pub mod OfQueue
+pub mod OfRings
 pub mod OfEntries
 pub mod OfFlags
 pub mod OfAsks

@@ -18,7 +18,7 @@ use Rattle.kinds.specs.declared.requests.Ret.the-variants.{None, Test, Use, Hav
 use Rattle.kinds.specs.declared.requests.DeqRet.{DeqRet}
 use Rattle.kinds.specs.declared.requests.DeqRet.the-variants.{None as DeqNone, Have as DeqHave}
 use Rattle.kinds.specs.declared.replies.Verdict.{Verdict}
-use Rattle.kinds.specs.declared.replies.Refusal.the-variants.{OutOfRange, ShortCodes, NoEntryFree}
+use Rattle.kinds.specs.declared.replies.Refusal.the-variants.{OutOfRange, ShortArea, NoEntryFree}
 use Rattle.kinds.specs.declared.replies.Fault.the-variants.{DuplicateEnq, DeqWithoutEntry}
 use Rattle.rules.specs.Names.{Resource, Ask, Names, namesGood, namesOf as resources}
 use Rattle.rules.specs.Control.{Entry, hasEntry, available, holding}
@@ -196,7 +196,7 @@ abbrev bad : Bool → Check
 bad good = refuse OutOfRange (not good)
 
 abbrev short : Bool → ℕ → Names → Check
-short due room l = refuse ShortCodes (due && tooShort room l)
+short due room l = refuse ShortArea (due && tooShort room l)
 
 -- n entries of task 1
 abbrev long : ℕ → List Entry
@@ -279,7 +279,7 @@ abbrev longer : List Entry → ℕ → DeqRet → Names → ℕ → Verdict
 longer q c ret l room =
     firstOf
     (bad (namesGood l)
-    ∷ refuse ShortCodes (deqCodesDue ret && leb room (length (l .asks)))
+    ∷ refuse ShortArea (deqCodesDue ret && leb room (length (l .asks)))
     ∷ fail DeqWithoutEntry (unentered ret q c l)
     ∷ [])
 

@@ -47,7 +47,7 @@ use Rattle.impostors.specs.Fitting.{fits-TaskNumber, fits-end, fits-lent
 use Rattle.impostors.specs.Opened.{tables-open}
 use Rattle.impostors.specs.Samples.{task, namesOf, after, owned as ownedRun, awaited as awaitedRun, sharedByOne}
 use Rattle.impostors.specs.Parts.{lent}
-use Rattle.impostors.specs.Wrong.{told-apart, RuledOutWith}
+use Rattle.impostors.specs.Wrong.{RuledOutWith, wrong-result, wrong-area}
 
 -- the parameters of ENQ and of DEQ
 abbrev Given : Type 0 → Type 0
@@ -91,32 +91,6 @@ admits s c h o g = record {
   running = running-parts s h o;
   gate = g;
 }
-
--- the promise is of the result and of the codes area: a test tells the result apart, or the area
-module _ {K : Type 0} {A R E W : K → Type 0} {T : (k : K) → A k → Bool} {Q : (k : K) → A k → Type 0}
-    {f : (k : K) → A k → R k × E k} {d : (k : K) → A k → R k} {area : (k : K) → E k → W k} {w : (k : K) → A k → W k}
-  where
-    wrong-result : (k : K) (a : A k) → T k a ≡ true → Q k a → (test : R k → Bool) → test (f k a .0) ≡ true
-        → test (d k a) ≡ false
-        → RuledOutWith T Q (λ k a r e. (r ≡ d k a) × (area k e ≡ w k a)) f
-    wrong-result k a t q test h n = record {
-      lifetimes = k;
-      given = a;
-      fitting = t;
-      asked = q;
-      broken = λ p. told-apart (p .0) test h n;
-    }
-
-    wrong-codes : (k : K) (a : A k) → T k a ≡ true → Q k a → (test : W k → Bool) → test (area k (f k a .1)) ≡ true
-        → test (w k a) ≡ false
-        → RuledOutWith T Q (λ k a r e. (r ≡ d k a) × (area k e ≡ w k a)) f
-    wrong-codes k a t q test h n = record {
-      lifetimes = k;
-      given = a;
-      fitting = t;
-      asked = q;
-      broken = λ p. told-apart (p .1) test h n;
-    }
 
 -- task 1 owns x, and 2 is ready; then 2 waits for x
 abbrev owned : Step
@@ -213,7 +187,7 @@ pub claimed-codes-under-none : RuledOutWith (λ k. fits-Given fits-Ret) claimed.
     (λ k a. (enqAnswer a, ends a (codesThrough Open (enqSays a) (area a) (writtenOn (enqCodesOf a) (area a)))))
 unfolding tables-open
 claimed-codes-under-none =
-    wrong-codes ([], tt) (on owned 2 None (namesOf (exc y ∷ [])) (238 ∷ [])) refl
+    wrong-area ([], tt) (on owned 2 None (namesOf (exc y ∷ [])) (238 ∷ [])) refl
     (owned-packed, admits owned (task 2) refl refl refl) (λ l. eqb (getD l 0 0) 0) refl refl
 
 -- WHAT IS PROMISED OF DEQ
@@ -267,5 +241,5 @@ pub given-up-codes-after-the-release : RuledOutWith (λ k. fits-Given fits-DeqRe
     ))
 unfolding tables-open
 given-up-codes-after-the-release =
-    wrong-codes ([], tt) (on owned 1 DeqHave (namesOf (exc x ∷ [])) (238 ∷ [])) refl
+    wrong-area ([], tt) (on owned 1 DeqHave (namesOf (exc x ∷ [])) (238 ∷ [])) refl
     (owned-packed, admits owned (task 1) refl refl refl) (λ l. eqb (getD l 0 0) 8) refl refl

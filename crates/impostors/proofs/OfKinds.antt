@@ -25,6 +25,7 @@ use Rattle.kinds.specs.declared.tasks.Condition.the-variants.{Free, Ready, Reso
 use Rattle.kinds.specs.declared.tasks.MaybeEcb.the-variants.{NoEcb, Named}
 use Rattle.kinds.specs.declared.tasks.Task.{Task}
 use Rattle.rules.specs.SoundTasks.{hasEcb}
+use Rattle.rules.specs.Alike.{kindOf}
 use Rattle.kinds.proofs.areas.Area.zero.Reads as Area-zero
 use Rattle.kinds.proofs.areas.Area.length_good.Reads as Area-length-good
 use Rattle.kinds.proofs.areas.Area.subpool_good.Reads as Area-subpool-good
@@ -58,7 +59,6 @@ use Rattle.impostors.specs.Opened.{tables-open}
 use Rattle.impostors.specs.Samples.{task, ecb}
 use Rattle.impostors.specs.Wrong.{RuledOut, wrong-at}
 use Rattle.impostors.specs.Parts.{address}
-use Rattle.impostors.specs.Answers.{kindOf}
 
 -- A TEST that says yes of one thing given and has to say no, or no and has to say yes
 module _ {X : Type 0} {E : Unit {0} → Type 0} {T d f : (k : Unit {0}) → X × Unit {0} → Bool} (x : X)

@@ -26,6 +26,7 @@ use Rattle.rules.specs.Getmain.{getmainGood, wanted, isNowhere, getmainVerdict}
 use Rattle.rules.specs.Freemain.{isNamed, freemainGood, freemainVerdict}
 use Rattle.rules.specs.HandCases.{area}
 use Rattle.rules.specs.Table.{counted}
+use Rattle.rules.specs.Alike.{kindOf}
 use Rattle.storage.specs.Stored.{areasIn, storedAreas, PackedAreas}
 use Rattle.storage.specs.Kept.{stored-packed}
 use Rattle.storage.specs.declared.Storage.{Storage}
@@ -40,7 +41,7 @@ use Rattle.impostors.specs.Fitting.{fits-end, fits-u32, fits-u8}
 use Rattle.impostors.specs.Opened.{tables-open}
 use Rattle.impostors.specs.Wrong.{RuledOut, wrong-at}
 use Rattle.impostors.specs.Samples.{task}
-use Rattle.impostors.specs.Answers.{kindOf, retold}
+use Rattle.impostors.specs.Answers.{retold}
 use Rattle.impostors.specs.Parts.{address, goes}
 
 -- SAMPLES: 8 bytes of task 1 in subpool 5, and 104 in subpool 10, at 0; 128 areas of 8 bytes in subpool 10, from 0 on

@@ -1,20 +1,20 @@
 -- Wrong answers that the contracts of `services` rule out. Each is right but for one
 -- thing: 100, the gate, the numbers and the tables are those of the rules wherever the
 -- mistake doesn't show. Whole services that are wrong stand in Impostors and Slips.
-use Prim.Native.Nat.{ℕ, _/_}
+use Prim.Native.Nat.{ℕ, _+_, _-_, _*_, _/_}
 use mathlib.Core.Path.{_≡_, refl}
 use mathlib.Core.Bool.{Bool, true, false, not, cond, _&&_, _||_}
-use mathlib.Core.List.{List, [], _∷_}
-use lib.Dec.{eqb}
+use mathlib.Core.List.{List, [], _∷_, _++_, map}
+use lib.Dec.{eqb, ltb}
 use lib.IntN.{ℤ, pos}
-use lib.ListN.{length, getD, set}
-use denote.Ref.{RefT}
-use Rattle.lists.specs.Lists.{some, keep}
+use lib.ListN.{length, getD, set, take, replicate}
+use denote.Ref.{RefT, now, at-last}
+use Rattle.lists.specs.Lists.{some, keep, numbers, gathered}
 use Rattle.lists.specs.Pick.{pick}
-use Rattle.kinds.specs.Limits.{region, doubleword}
+use Rattle.kinds.specs.Limits.{highestTask, mostEntries, region, doubleword}
 use Rattle.kinds.specs.Ranges.{endCodeGood, priorityGood}
 use Rattle.kinds.specs.Replies.{valueOf}
-use Rattle.kinds.specs.Replies.Besides.{TheNumber}
+use Rattle.kinds.specs.Replies.Besides.{TheNumber, TheCount}
 use Rattle.kinds.specs.Tasks.{noTask, isFree, isReady, inResourceWait}
 use Rattle.kinds.specs.declared.numbers.TaskNumber.{TaskNumber}
 use Rattle.kinds.specs.declared.numbers.EcbNumber.{EcbNumber}
@@ -33,13 +33,21 @@ use Rattle.kinds.specs.declared.requests.DeqRet.the-variants.{None as DeqNone, 
 use Rattle.kinds.specs.declared.replies.Refusal.the-variants.{OutOfRange}
 use Rattle.kinds.specs.declared.replies.Fault.the-variants.{NotSubtask, NoSuchArea}
 use Rattle.kinds.specs.declared.replies.Verdict.{Verdict}
+use Rattle.kinds.specs.declared.replies.Gate.{Gate}
+use Rattle.kinds.specs.declared.replies.Gate.the-variants.{Open, Shut}
 use Rattle.names.specs.Named.{namesIn}
 use Rattle.events.specs.Blocks.{ecbsIn}
 use Rattle.rules.specs.Names.{Names, namesOf as resources}
+use Rattle.rules.specs.Control.{Entry}
+use Rattle.rules.specs.Rings.{waitsFor, leadsBy, tasksQueued, stuck as stuckOf}
+use Rattle.rules.specs.Reports.{StuckTask, firstStuckAt, stuckItem, standing, queuesOf, queueItem, ItemList, itemised}
+use Rattle.rules.specs.Reports.{stuckList, queuesList, reportGate, reported, reportOf, stuckReport}
+use Rattle.rules.specs.Reports.{queuesReport}
 use Rattle.rules.specs.Family.{place, withPlace, conditionOf, below}
 use Rattle.rules.specs.Steps.{Step, Outcome, Served, done, doneWith, refused, keptBy, overStep, withTasks, withQueue}
-use Rattle.rules.specs.Steps.{withEcbs, withAreas}
+use Rattle.rules.specs.Steps.{withEcbs, withAreas, untouched}
 use Rattle.rules.specs.Table.{exc}
+use Rattle.rules.specs.Alike.{kindOf}
 use Rattle.rules.specs.Tests.{refuse, fail, firstOf}
 use Rattle.rules.specs.Admission.{gateOf, openGate, through, settled, codesThrough}
 use Rattle.rules.specs.Codes.{writtenOn}
@@ -63,8 +71,9 @@ use Rattle.rules.specs.Sound.{soundStep}
 use Rattle.rules.specs.Fresh.{freshStep}
 use Rattle.rules.specs.Serve.{serviceOf}
 use Rattle.history.specs.Samples.{start, x}
-use Rattle.services.specs.Kept.{stepOf, tablesOf, withClaims, soundb, answered}
+use Rattle.services.specs.Kept.{stepOf, tablesOf, withClaims, soundb, answered, answeredWith, saidWith}
 use Rattle.services.specs.declared.Tables.{Tables}
+use Rattle.services.specs.declared.Answer.{Answer}
 use Rattle.services.proofs.Tables.sound.Reads as sound
 use Rattle.services.proofs.Tables.fresh.Reads as fresh
 use Rattle.services.proofs.Tables.dispatch.Reads as dispatch
@@ -80,6 +89,8 @@ use Rattle.services.proofs.Tables.clear.Reads as clear
 use Rattle.services.proofs.Tables.getmain.Reads as getmain
 use Rattle.services.proofs.Tables.freemain.Reads as freemain
 use Rattle.services.proofs.Tables.serve.Reads as serve
+use Rattle.services.proofs.Tables.stuck.Reads as stuck
+use Rattle.services.proofs.Tables.queues.Reads as queues
 use Rattle.impostors.specs.Fitting.{_⊗_, fits-bool, fits-end, fits-i16, fits-lent, fits-u16, fits-u32, fits-u8}
 use Rattle.impostors.specs.Fitting.{fits-Address, fits-DeqRet, fits-EcbList, fits-EcbNumber, fits-MaybeEcb}
 use Rattle.impostors.specs.Fitting.{fits-NameList, fits-Request, fits-Ret, fits-Tables, fits-TaskNumber}
@@ -87,9 +98,10 @@ use Rattle.impostors.specs.Opened.{tables-open}
 use Rattle.impostors.specs.Wrong.{told-apart, RuledOut, wrong-at, RuledOutWith, wrong-with, Heeds, heeds}
 use Rattle.impostors.specs.Samples.{Asking, task, ecb, namesOf, ecbsOf, after, oneDaughter, twoGenerations}
 use Rattle.impostors.specs.Samples.{withEcb, daughterOwns, owned, awaited, postedOnce, waitedOn, oneArea}
+use Rattle.impostors.specs.Samples.{ringOfTwo, behindAnother, sharedAhead, ringOfLast}
 use Rattle.impostors.specs.Parts.{lent, address, lastBest, incomplete}
 use Rattle.impostors.specs.Impostors.{byService}
-use Rattle.impostors.specs.Answers.{answerOf, answering, but, butServed, kindOf, retelling, coding}
+use Rattle.impostors.specs.Answers.{answerOf, answering, but, butServed, retelling, coding, reporting}
 
 -- the tables after a run from a fresh step
 abbrev tables : List Asking → Tables
@@ -536,3 +548,187 @@ serve-answers-a-number =
     wrong-with ([], tt)
     (tables oneArea, (Getmain (task 1) 8 10 false, (namesOf [], (ecbsOf [], (lent [], tt))))) refl tt
     (λ o. eqb (kindOf (o .outcome .besides)) 3) refl refl
+
+-- THE REPORTS
+
+-- tables, and a list area of so many bytes of 238
+abbrev Reports : Type 0
+Reports = Tables × (RefT (List ℕ) × Unit {0})
+
+abbrev fits-Reports : Reports → Bool
+fits-Reports = fits-Tables ⊗ fits-lent ⊗ fits-end
+
+abbrev on : Tables → ℕ → Reports
+on t n = (t, (lent (replicate n 238), tt))
+
+-- a byte of the list area at the end, the number that is answered, and the number of items
+abbrev byteIs : ℕ → ℕ → Served Tables → Bool
+byteIs place b o = eqb (getD (o .codes) place 238) b
+
+abbrev numberIs : ℕ → Served Tables → Bool
+numberIs n o = eqb (o .outcome .number) n
+
+abbrev itemsAre : ℕ → Served Tables → Bool
+itemsAre n o = eqb (valueOf (o .outcome .besides)) n
+
+-- what our report and another say of the tables after a run
+abbrev reportSays : (Step → List ℕ → Served Step) → List Asking → ℕ → Served Tables
+reportSays f l n = answeredWith (tables l) (replicate n 238) f
+
+abbrev otherSays : (Step → List ℕ → Served Step) → List Asking → ℕ → Served Tables
+otherSays f l n =
+    let o = answeredWith (tables l) (replicate n 238) f in
+    saidWith (answerOf (o .outcome)) (o .codes)
+
+-- another report than ours, where a test tells what they say apart
+stuck-otherwise : (f : Step → List ℕ → Served Step) (l : List Asking) (n : ℕ) → fits-Reports (on (tables l) n) ≡ true
+    → (test : Served Tables → Bool) → test (otherSays f l n) ≡ true → test (reportSays stuckReport l n) ≡ false
+    → RuledOutWith (λ k. fits-Reports) stuck.Pre stuck.Post (λ k a. reporting a f)
+stuck-otherwise f l n h test t u = wrong-with ([], tt) (on (tables l) n) h tt test t u
+
+queues-otherwise : (f : Step → List ℕ → Served Step) (l : List Asking) (n : ℕ) → fits-Reports (on (tables l) n) ≡ true
+    → (test : Served Tables → Bool) → test (otherSays f l n) ≡ true → test (reportSays queuesReport l n) ≡ false
+    → RuledOutWith (λ k. fits-Reports) queues.Pre queues.Post (λ k a. reporting a f)
+queues-otherwise f l n h test t u = wrong-with ([], tt) (on (tables l) n) h tt test t u
+
+-- a report of another list
+abbrev otherList : (List Entry → List StuckTask) → Step → List ℕ → Served Step
+otherList list = reportOf (λ q. itemised stuckItem (list q))
+
+-- the items of those tasks that pass a test, each with a task that passes another
+abbrev itemsBy : (ℕ → Bool) → (ℕ → Bool) → List ℕ → List Entry → List StuckTask
+itemsBy these partners numbered q = gathered (firstStuckAt partners q) (keep these numbered)
+
+abbrev allTasks : List ℕ
+allTasks = numbers 1 highestTask
+
+-- a task that waits for a stuck one is listed: 4 stands behind 2 and 3
+abbrev stuckOrBehind : List Entry → ℕ → Bool
+stuckOrBehind q t = stuckOf q t || some (λ (k : ℕ). stuckOf q k && waitsFor q t k) allTasks
+
+abbrev listingBehind : Step → List ℕ → Served Step
+listingBehind = otherList (λ q. itemsBy (stuckOrBehind q) (stuckOf q) allTasks q)
+
+pub stuck-lists-who-is-behind : RuledOutWith (λ k. fits-Reports) stuck.Pre stuck.Post (λ k a. reporting a listingBehind)
+unfolding tables-open
+stuck-lists-who-is-behind = stuck-otherwise listingBehind ringOfTwo 9 refl (itemsAre 3) refl refl
+
+-- in falling order: 3 comes first
+abbrev falling : List ℕ
+falling = map (λ (n : ℕ). (highestTask + 1) - n) allTasks
+
+abbrev listingFalling : Step → List ℕ → Served Step
+listingFalling = otherList (λ q. itemsBy (stuckOf q) (stuckOf q) falling q)
+
+pub stuck-in-falling-order : RuledOutWith (λ k. fits-Reports) stuck.Pre stuck.Post (λ k a. reporting a listingFalling)
+unfolding tables-open
+stuck-in-falling-order = stuck-otherwise listingFalling ringOfTwo 6 refl (byteIs 0 3) refl refl
+
+-- the partner is any task that is waited for: 4, for whom 2 waits first, is not stuck
+abbrev anyPartner : Step → List ℕ → Served Step
+anyPartner = otherList (λ q. itemsBy (stuckOf q) (λ t. true) allTasks q)
+
+pub stuck-any-partner : RuledOutWith (λ k. fits-Reports) stuck.Pre stuck.Post (λ k a. reporting a anyPartner)
+unfolding tables-open
+stuck-any-partner = stuck-otherwise anyPartner behindAnother 6 refl (byteIs 2 4) refl refl
+
+-- a shared entry before a shared one counts: 3, who shares y, is named as the partner of 2, who asks for it shared
+abbrev madeExclusive : Entry → Entry
+madeExclusive e = record { task = e .task; exclusive = true; name = e .name }
+
+abbrev sharedCounts : Step → List ℕ → Served Step
+sharedCounts = otherList (λ q. itemsBy (stuckOf q) (stuckOf q) allTasks (map madeExclusive q))
+
+pub stuck-shared-before-shared : RuledOutWith (λ k. fits-Reports) stuck.Pre stuck.Post (λ k a. reporting a sharedCounts)
+unfolding tables-open
+stuck-shared-before-shared = stuck-otherwise sharedCounts sharedAhead 9 refl (byteIs 2 3) refl refl
+
+-- a ring is not seen when it passes task 32: 31 and 32 wait for each other
+abbrev stepBelowLast : List Entry → ℕ → ℕ → Bool
+stepBelowLast q a b = waitsFor q a b && (ltb a highestTask && ltb b highestTask)
+
+abbrev withoutLast : List Entry → ℕ → Bool
+withoutLast q t = leadsBy (stepBelowLast q) (tasksQueued q) t t
+
+abbrev notByLast : Step → List ℕ → Served Step
+notByLast = otherList (λ q. itemsBy (withoutLast q) (withoutLast q) allTasks q)
+
+pub stuck-not-by-way-of-task-32 : RuledOutWith (λ k. fits-Reports) stuck.Pre stuck.Post (λ k a. reporting a notByLast)
+unfolding tables-open
+stuck-not-by-way-of-task-32 = stuck-otherwise notByLast ringOfLast 6 refl (itemsAre 0) refl refl
+
+-- 104 by the longest list: six bytes are room enough for two items
+abbrev longest : ItemList
+longest = record { items = highestTask; bytes = replicate (3 * highestTask) 0 }
+
+abbrev asLongAsAny : Step → List ℕ → Served Step
+asLongAsAny s area = reported (reportGate s longest (length area)) s (stuckList (s .queue)) area
+
+pub stuck-104-by-the-longest-list : RuledOutWith (λ k. fits-Reports) stuck.Pre stuck.Post
+    (λ k a. reporting a asLongAsAny)
+unfolding tables-open
+stuck-104-by-the-longest-list = stuck-otherwise asLongAsAny ringOfTwo 6 refl (numberIs 104) refl refl
+
+-- a byte behind the list, where the area has one: a zero after the two items
+abbrev withEnd : List ℕ → List ℕ → List ℕ
+withEnd bytes area = take (length area) (writtenOn (bytes ++ (0 ∷ [])) area)
+
+abbrev endedBy : Gate → Step → ItemList → List ℕ → Served Step
+endedBy (Shut why) s r area = untouched area (refused why s)
+endedBy Open s r area = record { outcome = doneWith (TheCount (r .items)) s; codes = withEnd (r .bytes) area }
+
+abbrev withByteBehind : Step → List ℕ → Served Step
+withByteBehind s area = endedBy (reportGate s (stuckList (s .queue)) (length area)) s (stuckList (s .queue)) area
+
+pub stuck-a-byte-behind : RuledOutWith (λ k. fits-Reports) stuck.Pre stuck.Post (λ k a. reporting a withByteBehind)
+unfolding tables-open
+stuck-a-byte-behind = stuck-otherwise withByteBehind ringOfTwo 7 refl (byteIs 6 0) refl refl
+
+-- the list of a step that breaks a rule: 2 has an entry and is not live
+abbrev unguarded : Reports → Answer × Reports
+unguarded a =
+    let o = stuckReport (stepOf (a .0)) (now (a .1 .0)) in
+    (answerOf (keptBy tablesOf (o .outcome)), (a .0, (at-last (a .1 .0) (o .codes), tt)))
+
+pub stuck-of-unsound-tables : RuledOutWith (λ k. fits-Reports) stuck.Pre stuck.Post
+    (λ k a. unguarded a)
+unfolding tables-open
+stuck-of-unsound-tables =
+    wrong-with ([], tt) (on (tablesOf (withQueue start (record { task = 2; exclusive = true; name = x } ∷ []))) 0) refl
+    tt (λ o. eqb (o .outcome .number) 0) refl refl
+
+-- a waiter is shown as owner: 3, who waits for x
+abbrev allOwners : Step → List ℕ → Served Step
+allOwners = reportOf (λ q. itemised (λ x. x .place ∷ 1 ∷ []) (queuesOf q))
+
+pub queues-a-waiter-owns : RuledOutWith (λ k. fits-Reports) queues.Pre queues.Post (λ k a. reporting a allOwners)
+unfolding tables-open
+queues-a-waiter-owns = queues-otherwise allOwners ringOfTwo 10 refl (byteIs 3 1) refl refl
+
+-- entries in queue order, not grouped: after 2's for x comes 3's for y
+abbrev inQueueOrder : Step → List ℕ → Served Step
+inQueueOrder = reportOf (λ q. itemised queueItem (standing q))
+
+pub queues-not-by-name : RuledOutWith (λ k. fits-Reports) queues.Pre queues.Post (λ k a. reporting a inQueueOrder)
+unfolding tables-open
+queues-not-by-name = queues-otherwise inQueueOrder ringOfTwo 10 refl (byteIs 2 1) refl refl
+
+-- 104 by the longest list: two bytes are room enough for one item
+abbrev fullest : ItemList
+fullest = record { items = mostEntries; bytes = replicate (2 * mostEntries) 0 }
+
+abbrev asManyAsAny : Step → List ℕ → Served Step
+asManyAsAny s area = reported (reportGate s fullest (length area)) s (queuesList (s .queue)) area
+
+pub queues-104-by-the-longest-list : RuledOutWith (λ k. fits-Reports) queues.Pre queues.Post
+    (λ k a. reporting a asManyAsAny)
+unfolding tables-open
+queues-104-by-the-longest-list = queues-otherwise asManyAsAny owned 2 refl (numberIs 104) refl refl
+
+-- the number of bytes is told for the number of items
+abbrev countingBytes : Step → List ℕ → Served Step
+countingBytes = reportOf (λ q. record { items = length (queuesList q .bytes); bytes = queuesList q .bytes })
+
+pub queues-tells-the-bytes : RuledOutWith (λ k. fits-Reports) queues.Pre queues.Post (λ k a. reporting a countingBytes)
+unfolding tables-open
+queues-tells-the-bytes = queues-otherwise countingBytes owned 2 refl (itemsAre 2) refl refl

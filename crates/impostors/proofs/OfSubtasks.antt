@@ -23,6 +23,7 @@ use Rattle.rules.specs.Ending.{endTasks}
 use Rattle.rules.specs.Attach.{attachGood, attachVerdict, lowestFree}
 use Rattle.rules.specs.Detach.{detachGood}
 use Rattle.rules.specs.End.{endGood}
+use Rattle.rules.specs.Alike.{kindOf}
 use Rattle.family.specs.Families.{familyOf}
 use Rattle.family.specs.declared.Family.{Family}
 use Rattle.subtasks.specs.Attaching.{attachedBy}
@@ -36,7 +37,7 @@ use Rattle.impostors.specs.Fitting.{fits-i16, fits-u16}
 use Rattle.impostors.specs.Opened.{tables-open}
 use Rattle.impostors.specs.Wrong.{RuledOut, wrong-at, Heeds, heeds}
 use Rattle.impostors.specs.Samples.{task}
-use Rattle.impostors.specs.Answers.{kindOf, retold}
+use Rattle.impostors.specs.Answers.{retold}
 use Rattle.impostors.specs.Parts.{verdictNumber, family, first, ready, ended}
 
 -- 2 is task 1's daughter, 3 is 2's, 4 is 3's

@@ -4,7 +4,7 @@ use mathlib.Core.Path.{_≡_, refl}
 use mathlib.Core.List.{List}
 use denote.Ref.{RefT, now, at-last}
 use Rattle.kinds.specs.Replies.{numberOf, Besides, besidesIn, valueOf, doneBy, replyOf}
-use Rattle.kinds.specs.Replies.Besides.{NoValue, NewNumber, TheAddress, TheNumber}
+use Rattle.kinds.specs.Replies.Besides.{NoValue, NewNumber, TheAddress, TheNumber, TheCount}
 use Rattle.kinds.specs.declared.replies.Reply.{Reply}
 use Rattle.rules.specs.Steps.{Step, Outcome, Served}
 use Rattle.services.specs.Kept.{answered, answeredWith}
@@ -17,6 +17,7 @@ done-says NoValue = (refl, refl)
 done-says (NewNumber t) = (refl, refl)
 done-says (TheAddress a) = (refl, refl)
 done-says (TheNumber t) = (refl, refl)
+done-says (TheCount n) = (refl, refl)
 
 -- an answer that says an outcome
 abbrev pub answerOf : Outcome Tables → Answer
@@ -34,25 +35,20 @@ abbrev pub butServed : Served Step → (Step → Step) → Served Step
 butServed o f = record { outcome = but (o .outcome) f; codes = o .codes }
 
 -- VALUES OF ANOTHER KIND, the same to whoever looks at number and value alone: a new task's number is told as an
--- address, an address as the number of the task to go on with, and that as a new task's
+-- address, an address as the number of the task to go on with, that as a new task's, and a number of items as one too
 abbrev pub otherKind : Besides → Besides
 otherKind NoValue = NoValue
 otherKind (NewNumber t) = TheAddress (record { 0 = t .0 })
 otherKind (TheAddress a) = TheNumber (record { 0 = a .0 })
 otherKind (TheNumber t) = NewNumber t
+otherKind (TheCount n) = NewNumber (record { 0 = n })
 
 pub other-kind-same-value : (b : Besides) → valueOf (otherKind b) ≡ valueOf b
 other-kind-same-value NoValue = refl
 other-kind-same-value (NewNumber t) = refl
 other-kind-same-value (TheAddress a) = refl
 other-kind-same-value (TheNumber t) = refl
-
--- the kinds by number: none, a new task's, an address, that of the task to go on with
-abbrev pub kindOf : Besides → ℕ
-kindOf NoValue = 0
-kindOf (NewNumber t) = 1
-kindOf (TheAddress a) = 2
-kindOf (TheNumber t) = 3
+other-kind-same-value (TheCount n) = refl
 
 -- a reply and an outcome with their value so told
 abbrev pub retold : Reply → Reply
@@ -72,3 +68,11 @@ coding a f =
     let area = a .1 .1 .1 .1 .0 in
     let o = answeredWith (a .0) (now area) f in
     (answerOf (o .outcome), (a .0, (a .1 .0, (a .1 .1 .0, (a .1 .1 .1 .0, (at-last area (o .codes), tt))))))
+
+-- the same of a report, whose list area is its second parameter
+abbrev pub reporting : Tables × (RefT (List ℕ) × Unit {0}) → (Step → List ℕ → Served Step)
+    → Answer × (Tables × (RefT (List ℕ) × Unit {0}))
+reporting a f =
+    let area = a .1 .0 in
+    let o = answeredWith (a .0) (now area) f in
+    (answerOf (o .outcome), (a .0, (at-last area (o .codes), tt)))

@@ -32,7 +32,8 @@ use Rattle.kinds.specs.declared.requests.Ret.{Ret}
 use Rattle.kinds.specs.declared.requests.DeqRet.{DeqRet}
 use Rattle.kinds.specs.declared.replies.Fault.{Fault}
 use Rattle.kinds.specs.declared.replies.Reply.{Reply}
-use Rattle.kinds.specs.declared.replies.Reply.the-variants.{Done, Attached, Got, Dispatched, Four, Refused, Failed}
+use Rattle.kinds.specs.declared.replies.Reply.the-variants.{Done, Attached, Got, Dispatched, Counted, Four, Refused}
+use Rattle.kinds.specs.declared.replies.Reply.the-variants.{Failed}
 use Rattle.family.specs.declared.Family.{Family}
 use Rattle.queue.specs.declared.Queue.{Queue}
 use Rattle.queue.specs.declared.marks.Marks.{Marks}
@@ -133,6 +134,7 @@ fits-Reply Done = true
 fits-Reply (Attached t) = fits-TaskNumber t
 fits-Reply (Got a) = fits-Address a
 fits-Reply (Dispatched t) = fits-TaskNumber t
+fits-Reply (Counted n) = fits-u8 n
 fits-Reply Four = true
 fits-Reply (Refused why) = true
 fits-Reply (Failed what) = true

@@ -1,7 +1,7 @@
 -- WHAT WRONG ANSWERS ARE TRIED BY: requests with their lists, and the steps that they lead to from a fresh one.
 use Prim.Native.Nat.{ℕ}
 use mathlib.Core.Bool.{Bool, true, false, _&&_}
-use mathlib.Core.List.{List, [], _∷_, map}
+use mathlib.Core.List.{List, [], _∷_, _++_, map}
 use lib.Dec.{eqb}
 use lib.IntN.{pos}
 use lib.ListN.{length, replicate}
@@ -19,8 +19,8 @@ use Rattle.kinds.specs.declared.requests.Request.the-variants.{Attach, End, Enq
 use Rattle.kinds.specs.declared.requests.Ret.{Ret}
 use Rattle.kinds.specs.declared.requests.Ret.the-variants.{None}
 use Rattle.kinds.specs.declared.requests.DeqRet.{DeqRet}
-use Rattle.rules.specs.Names.{Ask}
-use Rattle.rules.specs.Table.{exc, shr}
+use Rattle.rules.specs.Names.{Resource, Ask}
+use Rattle.rules.specs.Table.{named, exc, shr}
 use Rattle.rules.specs.Steps.{Step, Served}
 use Rattle.rules.specs.Serve.{Asked, serviceOf}
 use Rattle.history.specs.Samples.{x, y}
@@ -102,6 +102,9 @@ after s (a ∷ l) = after (ruled s a .outcome .tables) l
 abbrev pub allDone : Step → List Asking → Bool
 allDone s [] = true
 allDone s (a ∷ l) = eqb (ruled s a .outcome .number) 0 && allDone (ruled s a .outcome .tables) l
+
+abbrev z : Resource
+z = named 90 (1 ∷ [])
 
 -- RUNS from a fresh step, 200/150
 
@@ -196,8 +199,50 @@ oneArea = getmain 1 100 10 ∷ []
 abbrev pub midPage : List Asking
 midPage = getmain 1 6144 5 ∷ getmain 1 8 5 ∷ freemain 1 0 6144 5 ∷ []
 
+-- RINGS. 2 and 3 wait for each other, and 4 stands behind both
+abbrev pub ringOfTwo : List Asking
+ringOfTwo =
+    daughter 1 ∷ daughter 1 ∷ daughter 1
+    ∷ enq 2 None 0 (exc x ∷ [])
+    ∷ enq 3 None 0 (exc y ∷ [])
+    ∷ enq 2 None 0 (exc y ∷ [])
+    ∷ enq 3 None 0 (exc x ∷ [])
+    ∷ enq 4 None 0 (exc x ∷ [])
+    ∷ []
+
+-- 2 and 3 wait for each other, but before that 2 waits for 4, who waits for nobody
+abbrev pub behindAnother : List Asking
+behindAnother =
+    daughter 1 ∷ daughter 1 ∷ daughter 1
+    ∷ enq 2 None 0 (exc x ∷ [])
+    ∷ enq 4 None 0 (exc z ∷ [])
+    ∷ enq 3 None 0 (exc y ∷ [])
+    ∷ enq 2 None 0 (exc z ∷ exc y ∷ [])
+    ∷ enq 3 None 0 (exc x ∷ [])
+    ∷ []
+
+-- 3 shares y, for which 4 waits exclusive and then 2 shared: 2 waits for 4, 4 for 3, 3 for 2
+abbrev pub sharedAhead : List Asking
+sharedAhead =
+    daughter 1 ∷ daughter 1 ∷ daughter 1
+    ∷ enq 2 None 0 (exc x ∷ [])
+    ∷ enq 3 None 0 (shr y ∷ [])
+    ∷ enq 4 None 0 (exc y ∷ [])
+    ∷ enq 2 None 0 (shr y ∷ [])
+    ∷ enq 3 None 0 (exc x ∷ [])
+    ∷ []
+
+-- 31 and 32 wait for each other
+abbrev pub ringOfLast : List Asking
+ringOfLast =
+    replicate 31 (daughter 1) ++ enq 32 None 0 (exc x ∷ [])
+    ∷ enq 31 None 0 (exc y ∷ [])
+    ∷ enq 32 None 0 (exc y ∷ [])
+    ∷ enq 31 None 0 (exc x ∷ [])
+    ∷ []
+
 abbrev pub runs : List (List Asking)
 runs =
     oneDaughter ∷ twoGenerations ∷ withEcb ∷ motherWithEcb ∷ undetached ∷ endedOnce
     ∷ daughterOwns ∷ owned ∷ awaited ∷ sharedByOne ∷ sharedByTwo ∷ behindFour ∷ bothAsked ∷ daughterHoldsBack
-    ∷ postedOnce ∷ waitedOn ∷ oneArea ∷ midPage ∷ []
+    ∷ postedOnce ∷ waitedOn ∷ oneArea ∷ midPage ∷ ringOfTwo ∷ behindAnother ∷ sharedAhead ∷ ringOfLast ∷ []

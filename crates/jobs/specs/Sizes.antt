@@ -14,6 +14,10 @@ longestLine = 16383
 abbrev pub mostCodes : ℕ
 mostCodes = 64
 
+-- a line that asks for room for more items of a report is not readable
+abbrev pub mostRoom : ℕ
+mostRoom = 255
+
 -- a line with more names or ECBs is not readable
 abbrev pub mostListed : ℕ
 mostListed = 20

@@ -3,7 +3,10 @@ use crate::fields;
 use crate::keys;
 use crate::number;
 use crate::plain;
+use crate::shows::Report;
+use crate::shows::Shows;
 use crate::sizes::LONGEST_LINE;
+use crate::sizes::MOST_ROOM;
 use crate::word;
 use kinds::DeqRet;
 use kinds::Request;
@@ -28,7 +31,7 @@ pub(crate) enum Form {
         request: Request,
         at: usize,
     },
-    Dump,
+    Show(Shows),
     Poke {
         at: usize,
     },
@@ -57,7 +60,9 @@ pub(crate) fn read(line: &[u8]) -> Form {
         keys::WAIT => with_ecbs(line, at),
         keys::POKE => Form::Poke { at },
         keys::FRESH => fresh(line, at),
-        keys::DUMP => alone(line, at, Form::Dump),
+        keys::DUMP => alone(line, at, Form::Show(Shows::Tables)),
+        keys::STUCK => report(line, at, Report::Stuck),
+        keys::QUEUES => report(line, at, Report::Queues),
         _ => plain::read(line, at, key),
     }
 }
@@ -83,6 +88,19 @@ fn fresh(line: &[u8], at: usize) -> Form {
     let limit = number::half(n.value);
     let dispatching = number::half(m.value);
     alone(line, m.next, Form::Fresh { limit, dispatching })
+}
+
+// A report: the room of its list area.
+fn report(line: &[u8], at: usize, report: Report) -> Form {
+    let n = number::read(line, at);
+    if !n.good {
+        return Form::Unreadable;
+    }
+    if (MOST_ROOM as u32) < n.value {
+        return Form::Unreadable;
+    }
+    let room = n.value as u8;
+    alone(line, n.next, Form::Show(Shows::Report { report, room }))
 }
 
 // WAIT: the ECBs stand after the count.

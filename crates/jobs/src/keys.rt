@@ -29,6 +29,10 @@ pub(crate) const DISPATCH: u64 = 0x6469737061746368;
 
 pub(crate) const DUMP: u64 = 0x64756d70;
 
+pub(crate) const STUCK: u64 = 0x737475636b;
+
+pub(crate) const QUEUES: u64 = 0x717565756573;
+
 pub(crate) const POKE: u64 = 0x706f6b65;
 
 // RET kinds, and how a request is made.

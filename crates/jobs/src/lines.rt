@@ -19,7 +19,8 @@ pub(crate) fn put_field(out: &mut [u8; BLOCK], at: usize, n: u32) -> usize
     put_number(out, k, n)
 }
 
-fn put_hex_field(out: &mut [u8; BLOCK], at: usize, bytes: &[u8]) -> usize
+// A space and bytes in hex.
+pub(crate) fn put_hex_field(out: &mut [u8; BLOCK], at: usize, bytes: &[u8]) -> usize
     ensures { λ r. ⌜ Kept at r ⌝ }
 {
     let k = put_byte(out, at, b' ');

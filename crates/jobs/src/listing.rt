@@ -26,7 +26,7 @@ use services::Tables;
 use storage::Storage;
 ghost use Rattle.jobs.specs.Places.{Kept};
 
-// Every byte of a codes area before a request.
+// Every byte of a lent area before a request or a report.
 pub(crate) const UNWRITTEN: u8 = 0xee;
 
 pub(crate) fn answer(

@@ -74,7 +74,7 @@ fn read_minor(line: &[u8], at: usize, count: usize, most: usize) -> Minor
     Minor { good: true, bytes }
 }
 
-fn least(a: usize, b: usize) -> usize
+pub(crate) fn least(a: usize, b: usize) -> usize
     ensures { λ r. ⌜ r ≤ b ⌝ }
 {
     if a < b { a } else { b }

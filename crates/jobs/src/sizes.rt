@@ -11,6 +11,9 @@ pub(crate) const LONGEST_LINE: usize = 16383;
 // A line that asks for a longer codes area is not readable.
 pub(crate) const MOST_CODES: usize = 64;
 
+// A line that asks for room for more items of a report is not readable.
+pub(crate) const MOST_ROOM: usize = u8::MAX as usize;
+
 // A line with more names or ECBs is not readable.
 pub(crate) const MOST_LISTED: u32 = 20;
 

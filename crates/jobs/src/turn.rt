@@ -8,6 +8,7 @@ use crate::outcome::Poked;
 use crate::poke_form;
 use crate::poke_form::PokeForm;
 use crate::poking;
+use crate::shows::Shows;
 use crate::sizes::MOST_CODES;
 use kinds::EcbList;
 use kinds::NameList;
@@ -26,14 +27,21 @@ pub(crate) enum Said {
     Answer { number: u16, besides: u32 },
 }
 
-// The tables as the line leaves them, whether they are to be written
-// out, and the codes area, which is `length` bytes of `codes`.
+// The tables as the line leaves them, what is to be shown of them,
+// and the codes area, which is `length` bytes of `codes`.
 pub(crate) struct Turn {
     pub(crate) tables: Tables,
-    pub(crate) dumps: bool,
+    pub(crate) shows: Shows,
     pub(crate) said: Said,
     pub(crate) codes: [u8; MOST_CODES],
     pub(crate) length: usize,
+}
+
+// Before the first `fresh` the tables are those of a step over with code 0, which a fresh start with dispatching above
+// limit gives back.
+pub(crate) fn start() -> Tables {
+    let a = Tables::fresh(0, 1);
+    a.tables
 }
 
 pub(crate) fn taken(t: Tables, line: &[u8]) -> Turn
@@ -41,7 +49,7 @@ pub(crate) fn taken(t: Tables, line: &[u8]) -> Turn
 {
     match form::read(line) {
         Form::Unreadable => still(t, Said::Unreadable),
-        Form::Dump => dumped(t),
+        Form::Show(shows) => showing(t, Said::Nothing, shows),
         Form::Fresh { limit, dispatching } => fresh(limit, dispatching),
         Form::Plain(request) => served(t, request, beside::no_names(), beside::no_ecbs(), 0),
         Form::Names {
@@ -59,21 +67,20 @@ pub(crate) fn taken(t: Tables, line: &[u8]) -> Turn
 fn still(t: Tables, said: Said) -> Turn
     ensures { λ r. ⌜ r .length ≤ mostCodes ⌝ }
 {
+    showing(t, said, Shows::Nothing)
+}
+
+// The tables stay, and something is shown of them.
+fn showing(t: Tables, said: Said, shows: Shows) -> Turn
+    ensures { λ r. ⌜ r .length ≤ mostCodes ⌝ }
+{
     Turn {
         tables: t,
-        dumps: false,
+        shows,
         said,
         codes: [UNWRITTEN; MOST_CODES],
         length: 0,
     }
-}
-
-fn dumped(t: Tables) -> Turn
-    ensures { λ r. ⌜ r .length ≤ mostCodes ⌝ }
-{
-    let mut k = still(t, Said::Nothing);
-    k.dumps = true;
-    k
 }
 
 fn fresh(limit: u16, dispatching: u16) -> Turn
@@ -95,7 +102,7 @@ fn answered(a: Answer, codes: [u8; MOST_CODES], length: usize) -> Turn
     };
     Turn {
         tables,
-        dumps: false,
+        shows: Shows::Nothing,
         said,
         codes,
         length,

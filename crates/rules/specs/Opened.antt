@@ -1,9 +1,10 @@
--- EVERY DEFINITION OPEN, under one name: a proof that says `unfolding rules-open` computes with all of document 01.
+-- EVERY DEFINITION OPEN, under one name: a proof that says `unfolding rules-open` computes with all of document 01 and
+-- of document 02 §1.
 use Rattle.lists.specs.Pick.{pick}
 use Rattle.kinds.specs.Ranges.{between, dpmodGood}
 use Rattle.rules.specs.Names.{legal, namesGood}
 use Rattle.rules.specs.Control.{granted, available, control}
-use Rattle.rules.specs.Rings.{bars, waitsFor}
+use Rattle.rules.specs.Rings.{bars, waitsFor, leadsBy, stuck}
 use Rattle.rules.specs.Steps.{overStep}
 use Rattle.rules.specs.Family.{place, used, mother, chain, below, isSubtaskOf}
 use Rattle.rules.specs.ResourceWaits.{waitAt}
@@ -36,20 +37,22 @@ use Rattle.rules.specs.Sound.{sizesGood, soundTasks, soundQueue, soundEc
 use Rattle.rules.specs.Sound.{soundStep}
 use Rattle.rules.specs.Form.{rangesGood, formHolds}
 use Rattle.rules.specs.Serve.{serviceOf, serveOf}
+use Rattle.rules.specs.Reports.{stuckTasks, queuesOf, stuckList, queuesList, reportGate}
 use Rattle.rules.specs.Reading.{climbs, endsWith}
 
 unfoldable pub rules-open : Unit {0}
-unfolding pick between dpmodGood legal namesGood granted available control bars waitsFor overStep place used mother
-    chain below isSubtaskOf waitAt ecbsGood wordOf onePostFewer unwaited bitsLeft woken signalled endAt areaStays
-    waiterStays leftBy detached ended failing admitted gateOf openGate through settled begunWith freshGood freshOf
-    heldTo newDispatching attachGood attachVerdict newTask attachDone detachGood detachVerdict detachDone endGood
-    endVerdict endDone abendVerdict abendDone coded writtenOn tooShort enqCode tooFewFree enqGood enqVerdict
-    madeExclusive enqDone enqWritten deqCode deqVerdict deqDone deqWritten waitVerdict waitSet waitDone postGood
-    postVerdict postDone clearGood clearVerdict clearDone rounded ownerIn areaAt oneHolder bytesApart pagesApart apart
-    permitted lowestFrom insertedIn sameArea getmainGood getmainVerdict getmainDone freemainGood freemainVerdict
-    freemainDone dispatched dispatchBody tasksFit jobStepGood motherGood mothersGood prioritiesGood taskEcbsGood
-    endedTasksGood zeroTask freePlacesGood queueFits entriesLive entriesOnce entryNamesGood waitGood waitsGood ecbsFit
-    waitersGood needsGood ecbWordGood ecbWordsGood zeroEcb areasFit areaShapeGood areaShapesGood areaOwnerGood
-    areaOwnersGood areasRise areasApart sizesGood soundTasks soundQueue soundEcbs soundAreas overGood runningGood
-    soundStep rangesGood formHolds serviceOf serveOf climbs endsWith
+unfolding pick between dpmodGood legal namesGood granted available control bars waitsFor leadsBy stuck overStep
+    place used mother chain below isSubtaskOf waitAt ecbsGood wordOf onePostFewer unwaited bitsLeft woken signalled
+    endAt areaStays waiterStays leftBy detached ended failing admitted gateOf openGate through settled begunWith
+    freshGood freshOf heldTo newDispatching attachGood attachVerdict newTask attachDone detachGood detachVerdict
+    detachDone endGood endVerdict endDone abendVerdict abendDone coded writtenOn tooShort enqCode tooFewFree enqGood
+    enqVerdict madeExclusive enqDone enqWritten deqCode deqVerdict deqDone deqWritten waitVerdict waitSet waitDone
+    postGood postVerdict postDone clearGood clearVerdict clearDone rounded ownerIn areaAt oneHolder bytesApart
+    pagesApart apart permitted lowestFrom insertedIn sameArea getmainGood getmainVerdict getmainDone freemainGood
+    freemainVerdict freemainDone dispatched dispatchBody tasksFit jobStepGood motherGood mothersGood prioritiesGood
+    taskEcbsGood endedTasksGood zeroTask freePlacesGood queueFits entriesLive entriesOnce entryNamesGood waitGood
+    waitsGood ecbsFit waitersGood needsGood ecbWordGood ecbWordsGood zeroEcb areasFit areaShapeGood areaShapesGood
+    areaOwnerGood areaOwnersGood areasRise areasApart sizesGood soundTasks soundQueue soundEcbs soundAreas overGood
+    runningGood soundStep rangesGood formHolds serviceOf serveOf stuckTasks queuesOf stuckList queuesList reportGate
+    climbs endsWith
 rules-open = tt

@@ -12,11 +12,30 @@ use Rattle.kinds.specs.declared.replies.Gate.the-variants.{Shut}
 use Rattle.kinds.specs.declared.replies.Verdict.{Verdict}
 use Rattle.rules.specs.Steps.{Step, Outcome, Served, refused, keptBy, untouched}
 use Rattle.rules.specs.Admission.{gateOf, through, settled, codesThrough}
-use Rattle.services.specs.Kept.{Admitted, stepOf, tablesOf, soundb, gateAt, servedBy, answeredWith, settledWith}
+use Rattle.services.specs.Kept.{Admitted, stepOf, tablesOf, soundb, gated, gateAt, servedBy, answeredWith}
+use Rattle.services.specs.Kept.{settledWith}
 use Rattle.services.specs.declared.Tables.{Tables}
 use Rattle.services.proofs.Glue.{sound-packed, refused-kept, gate-cases}
 
 -- THE GATE
+
+module _ (t : Tables) (area : List ℕ) (k : Step → Gate) (f : Step → List ℕ → Served Step) where
+  shut-is : (s : Outcome Tables) (why : Refusal) (b : Bool) → soundb t ≡ b → gated t k ≡ Shut why → s ≡ refused why t
+      → (k (stepOf t) ≡ Shut why → f (stepOf t) area ≡ untouched area (refused why (stepOf t)))
+      → untouched area s ≡ answeredWith t area f
+  unfolding answeredWith pick
+  shut-is s why true e h a l =
+      let g : k (stepOf t) ≡ Shut why = sym (gate-cases t k true e) ∙ h in
+      rw e (ap (untouched area) (a ∙ refused-kept t why (sound-packed t e)) ∙ ap servedBy (sym (l g)))
+  shut-is s why false e h a l =
+      let g : why ≡ Unsound = cc (gate-cases t k false e) in
+      rw e (ap (untouched area) (a ∙ ap (λ (w : Refusal). refused w t) g))
+
+  -- a gate that is shut refuses and writes nothing, where the rules say so of it
+  pub served-shut : (s : Outcome Tables) (g : Gate) (why : Refusal) → g ≡ gated t k → g ≡ Shut why → s ≡ refused why t
+      → (k (stepOf t) ≡ Shut why → f (stepOf t) area ≡ untouched area (refused why (stepOf t)))
+      → untouched area s ≡ answeredWith t area f
+  served-shut s g why e h a l = shut-is s why (soundb t) refl (sym e ∙ h) a l
 
 module _ (t : Tables) (c : TaskNumber) (area : List ℕ) (v : Step → List ℕ → Verdict)
     (o : Step → List ℕ → Served Step) where
@@ -34,20 +53,11 @@ module _ (t : Tables) (c : TaskNumber) (area : List ℕ) (v : Step → List ℕ 
   unfolding answeredWith pick through
   coded-open x a h = rw (a .sound, a .gate) h
 
-  shut-is : (s : Outcome Tables) (why : Refusal) (b : Bool) → soundb t ≡ b → gateAt t c ≡ Shut why → s ≡ refused why t
-      → untouched area s ≡ answeredWith t area servedOf
-  unfolding answeredWith pick through
-  shut-is s why true e h a =
-      let g : gateOf (stepOf t) c ≡ Shut why = sym (gate-cases t (λ u. gateOf u c) true e) ∙ h in
-      rw (e, g) (ap (untouched area) (a ∙ refused-kept t why (sound-packed t e)))
-  shut-is s why false e h a =
-      let g : why ≡ Unsound = cc (gate-cases t (λ u. gateOf u c) false e) in
-      rw e (ap (untouched area) (a ∙ ap (λ (w : Refusal). refused w t) g))
-
   -- a gate that is shut refuses, and no code is written
   pub coded-shut : (s : Outcome Tables) (g : Gate) (why : Refusal) → g ≡ gateAt t c → g ≡ Shut why → s ≡ refused why t
       → untouched area s ≡ answeredWith t area servedOf
-  coded-shut s g why e h a = shut-is s why (soundb t) refl (sym e ∙ h) a
+  unfolding through
+  coded-shut s g why e h a = served-shut t area (λ u. gateOf u c) servedOf s g why e h a (λ k. rw k)
 
 -- answer and codes together
 pub both-served : (o : Served Step) (s : Outcome Tables) (area : List ℕ) → s ≡ keptBy tablesOf (o .outcome)

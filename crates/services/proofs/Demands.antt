@@ -26,7 +26,6 @@ use Rattle.services.specs.Kept.{stepOf, tablesOf, servedBy, soundb, answ
 use Rattle.services.specs.Serve.{servedOf}
 use Rattle.services.specs.declared.Tables.{Tables}
 use Rattle.services.proofs.Serves.{serviceAt, sound-serves, serve-refuses, serve-abends}
-use Rattle.services.proofs.Tables.serve.Reads as serve
 
 -- OF ANY TABLES AND ANY REQUEST
 

@@ -97,8 +97,13 @@ module _ (t : Tables) (k : Step → Gate) where
   open-sound true e h = e
   open-sound false e h = shut-open Unsound (sym (gate-cases false e) ∙ h)
 
+  pub gate-opens : (g : Gate) → g ≡ gated t k → g ≡ Open → (soundb t ≡ true) × (k (stepOf t) ≡ Open)
+  unfolding pick
+  gate-opens g e h =
+      let b = open-sound (soundb t) refl (sym e ∙ h) in (b, sym (gate-cases true b) ∙ sym e ∙ h)
+
   pub gate-packed : (g : Gate) → g ≡ gated t k → g ≡ Open → Packed t
-  gate-packed g e h = sound-packed t (open-sound (soundb t) refl (sym e ∙ h))
+  gate-packed g e h = sound-packed t (gate-opens g e h .0)
 
   module _ (o : Step → Outcome Step) (s : Outcome Tables) where
     open-is : (b : Bool) → soundb t ≡ b → gated t k ≡ Open → s ≡ keptBy tablesOf (o (stepOf t))
@@ -132,10 +137,7 @@ module _ (t : Tables) (k : Step → Gate) where
 -- WHAT AN OPEN GATE GIVES
 
 pub gate-admits : (t : Tables) (c : TaskNumber) (g : Gate) → g ≡ gateAt t c → g ≡ Open → Admitted t c
-unfolding gated pick
-gate-admits t c g e h =
-    let b = open-sound t (λ u. gateOf u c) (soundb t) refl (sym e ∙ h) in
-    record { sound = b; gate = sym (gate-cases t (λ u. gateOf u c) true b) ∙ sym e ∙ h }
+gate-admits t c g e h = let o = gate-opens t (λ u. gateOf u c) g e h in record { sound = o .0; gate = o .1 }
 
 module _ (t : Tables) (c : TaskNumber) (a : Admitted t c) where
   pub admitted-packed : Packed t

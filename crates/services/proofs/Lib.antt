@@ -1,6 +1,7 @@
 pub mod Glue
 pub mod Leaves
 pub mod Coded
+pub mod Reporting
 pub mod Serving
 pub mod Serves
 pub mod Demands

@@ -16,7 +16,9 @@ use Rattle.services.proofs.Tables.fresh.Reads as fresh
 use Rattle.services.proofs.Tables.getmain.Reads as getmain
 use Rattle.services.proofs.Tables.sound.Reads as sound
 use Rattle.services.proofs.Tables.post.Reads as post
+use Rattle.services.proofs.Tables.queues.Reads as queues
 use Rattle.services.proofs.Tables.serve.Reads as serve
+use Rattle.services.proofs.Tables.stuck.Reads as stuck
 use Rattle.services.proofs.Tables.wait.Reads as wait
 
 pub abend-once : Once abend.Post
@@ -58,8 +60,14 @@ sound-once k a x y e d p q = p ∙ sym q
 pub post-once : Once post.Post
 post-once k a x y e d p q = answer-once x y (p ∙ sym q)
 
+pub queues-once : OnceWith queues.Post (λ k e. now (e .1 .0))
+queues-once k a x y e d p q = served-once x y _ _ (p ∙ sym q)
+
 pub serve-once : OnceWith serve.Post (λ k e. now (e .1 .1 .1 .1 .0))
 serve-once k a x y e d p q = served-once x y _ _ (p ∙ sym q)
+
+pub stuck-once : OnceWith stuck.Post (λ k e. now (e .1 .0))
+stuck-once k a x y e d p q = served-once x y _ _ (p ∙ sym q)
 
 pub wait-once : Once wait.Post
 wait-once k a x y e d p q = answer-once x y (p ∙ sym q)

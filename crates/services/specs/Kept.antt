@@ -127,7 +127,7 @@ soundb t = soundTables (t .over) (t .code) (t .family) (t .queue) (t .events) (t
 unfoldable pub answered : Tables → (Step → Outcome Step) → Outcome Tables
 answered t f = pick (soundb t) (keptBy tablesOf (f (stepOf t))) (refused Unsound t)
 
--- the same with what a codes area then holds: 100 leaves it as it is
+-- the same with what a codes area or a list area then holds: 100 leaves it as it is
 abbrev pub saidWith : Answer → List ℕ → Served Tables
 saidWith r area = record { outcome = said r; codes = area }
 

@@ -11,7 +11,9 @@ pub mod freemain;
 pub mod fresh;
 pub mod getmain;
 pub mod post;
+pub mod queues;
 pub mod serve;
+pub mod stuck;
 pub mod wait;
 
 use claims::Claimed;
@@ -95,7 +97,7 @@ impl Tables {
         admit(self.over, k.is_live(), k.waits())
     }
 
-    // The gate of DISPATCH, which names no caller.
+    // The gate of DISPATCH and of the reports, which name no caller.
     fn open_gate(self) -> Gate
         ensures { λ r. ⌜ r ≡ openGateAt self ⌝ }
     {

@@ -16,8 +16,8 @@ abbrev μ-loop : tie.MeasureT-loop
 μ-loop block₀ out₀ tables₀ next₀ end₀ at₀ number₀ ended₀ block out tables next end at number ended =
     highestLine - number
 
-fresh-requires : tie.Need-fresh-requires Inv-loop μ-loop
-fresh-requires c κs = search needs
+start-requires : tie.Need-start-requires Inv-loop μ-loop
+start-requires c κs = search needs
 
 loop-holds : tie.Need-loop-holds Inv-loop μ-loop
 loop-holds c = (refl, omega arith, omega arith)
@@ -64,8 +64,11 @@ taken-requires c κs = search needs
 say-requires : tie.Need-say-requires Inv-loop μ-loop
 say-requires c κs = omega arith
 
-dump-requires : tie.Need-dump-requires Inv-loop μ-loop
-dump-requires c κs = search needs
+any-requires : tie.Need-any-requires Inv-loop μ-loop
+any-requires c κs = search needs
+
+put-requires : tie.Need-put-requires Inv-loop μ-loop
+put-requires c κs = search needs
 
 loop-less-2 : tie.Need-loop-less-2 Inv-loop μ-loop
 loop-less-2 c = omega arith
@@ -84,7 +87,7 @@ returns-2 c = search needs
 
 pub run-spec : {M : Type 1} → statement M
 run-spec =
-    tie.close (tie.spec Inv-loop μ-loop fresh-requires loop-holds slice-aggregate-line line-requires add-number
+    tie.close (tie.spec Inv-loop μ-loop start-requires loop-holds slice-aggregate-line line-requires add-number
     sub-is-nothing part-is-nothing-start part-is-nothing-end is-nothing-requires loop-less loop-again sub-taken
-    part-taken-start part-taken-end taken-requires say-requires dump-requires loop-less-2 loop-again-2 flush-requires
-    returns returns-2)
+    part-taken-start part-taken-end taken-requires say-requires any-requires put-requires loop-less-2 loop-again-2
+    flush-requires returns returns-2)

@@ -1,0 +1,158 @@
+// The reports: who is stuck, and who stands in which queue. The service writes items into a list area that is lent to
+// it, and a line is put for each. An item gives the place of an entry in the queue, which comes back as it was; one
+// whose place the queue does not have, which no service writes, has no line.
+use crate::lines::put_field;
+use crate::lines::put_hex_field;
+use crate::listing;
+use crate::listing::UNWRITTEN;
+use crate::name;
+use crate::number;
+use crate::sizes::BLOCK;
+use crate::sizes::MOST_ROOM;
+use crate::text::put;
+use crate::text::put_byte;
+use crate::text::put_bytes_hex;
+use kinds::Name;
+use kinds::Reply;
+use kinds::Slot;
+use queue::Queue;
+use services::Tables;
+ghost use Rattle.jobs.specs.Places.{Kept};
+
+// The bytes of an item of the first report: task, place of the entry, partner.
+const STUCK_ITEM: usize = 3;
+
+// Of the second: place of the entry, and 1 for an owner or 0 for a waiter.
+const QUEUE_ITEM: usize = 2;
+
+// The longest list areas.
+const STUCK_LIST: usize = STUCK_ITEM * MOST_ROOM;
+
+const QUEUES_LIST: usize = QUEUE_ITEM * MOST_ROOM;
+
+// `NUMBER COUNT`.
+fn put_reply(reply: Reply, out: &mut [u8; BLOCK], at: usize) -> usize
+    ensures { λ r. ⌜ Kept at r ⌝ }
+{
+    listing::answer(out, at, reply.number(), reply.besides(), b"")
+}
+
+// A space and the name.
+fn put_name(name: Name, out: &mut [u8; BLOCK], at: usize) -> usize
+    ensures { λ r. ⌜ Kept at r ⌝ }
+{
+    let major = name.major;
+    let minor = name.minor;
+    let k = put_hex_field(out, at, &major);
+    let k = put_byte(out, k, b'.');
+    put_minor(minor, name.length, out, k)
+}
+
+// A minor part's own bytes, as many as it is long.
+fn put_minor(minor: [u8; Name::LONGEST], length: u16, out: &mut [u8; BLOCK], at: usize) -> usize
+    ensures { λ r. ⌜ Kept at r ⌝ }
+{
+    let n = name::least(length as usize, Name::LONGEST);
+    put_bytes_hex(out, at, &minor[..n])
+}
+
+// Who is stuck.
+pub(crate) fn stuck(t: Tables, room: u8, out: &mut [u8; BLOCK], at: usize) -> usize
+    ensures { λ r. ⌜ Kept at r ⌝ }
+{
+    let length = STUCK_ITEM * room as usize;
+    let mut list = [UNWRITTEN; STUCK_LIST];
+    let a = t.stuck(&mut list[..length]);
+    let tables = a.tables;
+    let q = tables.queue;
+    let reply = a.reply;
+    let k = put_reply(reply, out, at);
+    put_stuck(q, list, number::byte(reply.besides()), out, k)
+}
+
+fn put_stuck(q: Queue, list: [u8; STUCK_LIST], count: u8, out: &mut [u8; BLOCK], at: usize) -> usize
+    ensures { λ r. ⌜ Kept at r ⌝ }
+{
+    let mut k = at;
+    let mut i: usize = 0;
+    while i < count as usize {
+        let item = STUCK_ITEM * i;
+        k = put_stuck_item(q, list[item], list[item + 1], list[item + 2], out, k);
+        i += 1;
+    }
+    k
+}
+
+// `stuck TASK NAME PARTNER`.
+fn put_stuck_item(
+    q: Queue,
+    task: u8,
+    place: u8,
+    partner: u8,
+    out: &mut [u8; BLOCK],
+    at: usize,
+) -> usize
+    ensures { λ r. ⌜ Kept at r ⌝ }
+{
+    if Slot::PLACES <= place as usize {
+        return at;
+    }
+    let x = q.slots[place as usize];
+    let name = x.name;
+    let k = put(out, at, b"stuck");
+    let k = put_field(out, k, task as u32);
+    let k = put_name(name, out, k);
+    let k = put_field(out, k, partner as u32);
+    put_byte(out, k, b'\n')
+}
+
+// Who stands in which queue.
+pub(crate) fn queues(t: Tables, room: u8, out: &mut [u8; BLOCK], at: usize) -> usize
+    ensures { λ r. ⌜ Kept at r ⌝ }
+{
+    let length = QUEUE_ITEM * room as usize;
+    let mut list = [UNWRITTEN; QUEUES_LIST];
+    let a = t.queues(&mut list[..length]);
+    let tables = a.tables;
+    let q = tables.queue;
+    let reply = a.reply;
+    let k = put_reply(reply, out, at);
+    put_queues(q, list, number::byte(reply.besides()), out, k)
+}
+
+fn put_queues(
+    q: Queue,
+    list: [u8; QUEUES_LIST],
+    count: u8,
+    out: &mut [u8; BLOCK],
+    at: usize,
+) -> usize
+    ensures { λ r. ⌜ Kept at r ⌝ }
+{
+    let mut k = at;
+    let mut i: usize = 0;
+    while i < count as usize {
+        let item = QUEUE_ITEM * i;
+        k = put_queue_item(q, list[item], list[item + 1], out, k);
+        i += 1;
+    }
+    k
+}
+
+// `queue NAME TASK own`, or `wait`.
+fn put_queue_item(q: Queue, place: u8, owner: u8, out: &mut [u8; BLOCK], at: usize) -> usize
+    ensures { λ r. ⌜ Kept at r ⌝ }
+{
+    if Slot::PLACES <= place as usize {
+        return at;
+    }
+    let x = q.slots[place as usize];
+    let name = x.name;
+    let k = put(out, at, b"queue");
+    let k = put_name(name, out, k);
+    let k = put_field(out, k, x.task.0 as u32);
+    if owner == 0 {
+        return put(out, k, b" wait\n");
+    }
+    put(out, k, b" own\n")
+}

@@ -7,8 +7,8 @@ use crate::request::{Lists, Request, Ret};
 use crate::sound::is_sound;
 use crate::tables::Step;
 
-/// The refusal, if one of the tests down to 104 refuses.
-pub fn refusal(step: &Step, request: &Request, lists: Lists, codes: usize) -> Option<u32> {
+/// The refusal of any tables that nothing can be asked of, whatever is asked.
+pub fn tables_refusal(step: &Step) -> Option<u32> {
     // 100: the tables break a rule of the next section
     if !is_sound(step) {
         return Some(100);
@@ -16,6 +16,14 @@ pub fn refusal(step: &Step, request: &Request, lists: Lists, codes: usize) -> Op
     // 108: the step is over
     if step.over != 0 {
         return Some(108);
+    }
+    None
+}
+
+/// The refusal, if one of the tests down to 104 refuses.
+pub fn refusal(step: &Step, request: &Request, lists: Lists, codes: usize) -> Option<u32> {
+    if let Some(number) = tables_refusal(step) {
+        return Some(number);
     }
     if let Some(caller) = request.caller() {
         // 102: the caller isn't a live task

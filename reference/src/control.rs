@@ -1,11 +1,11 @@
-//! Who has control of a name, who waits for whom.
+//! Who has control of a name.
 
 use crate::names::Asked;
 use crate::numbers::TASKS;
 use crate::tables::{Entry, Step};
 
 /// Are both for one name, and one of the two exclusive?
-fn clash(a: &Entry, b: &Entry) -> bool {
+pub fn clash(a: &Entry, b: &Entry) -> bool {
     (a.excl != 0 || b.excl != 0) && a.name == b.name
 }
 
@@ -45,30 +45,4 @@ pub fn settle(step: &mut Step) {
     for n in 1..=TASKS as usize {
         step.tasks[n].rwait = lacks[n] as u32;
     }
-}
-
-/// "Task A waits for another task B when A has an entry without control and B an
-/// earlier one for that name, one of the two being exclusive"
-pub fn waits_for(step: &Step, a: u32, b: u32) -> bool {
-    let entries = step.used_entries();
-    a != b
-        && (0..entries.len()).any(|i| {
-            entries[i].task == a
-                && entries[..i].iter().any(|e| e.task == b && clash(e, &entries[i]))
-        })
-}
-
-/// "a ring is such steps leading back to their start": is the task on one?
-pub fn is_on_ring(step: &Step, start: u32) -> bool {
-    let mut reached = [false; TASKS as usize + 1];
-    let mut open = vec![start];
-    while let Some(a) = open.pop() {
-        for b in 1..=TASKS {
-            if !reached[b as usize] && waits_for(step, a, b) {
-                reached[b as usize] = true;
-                open.push(b);
-            }
-        }
-    }
-    reached[start as usize]
 }

@@ -1,7 +1,8 @@
-//! A plain reference implementation of the services of document 01.
+//! A plain reference implementation of the services of document 01, and of the reports of
+//! document 02.
 //!
 //!     reference                            answer the job script on standard input
-//!     reference generate SEED KIND COUNT   write a script of about COUNT requests
+//!     reference generate SEED KIND COUNT   write a script of about COUNT requests and reports
 //!     reference kinds                      write the kinds of scripts
 //!     reference coverage                   count what the script on standard input reaches
 //!     reference origin K                   say which line of it makes line K of the answers
@@ -17,7 +18,9 @@ mod numbers;
 mod poke;
 mod printer;
 mod random;
+mod reports;
 mod request;
+mod rings;
 mod runner;
 mod script;
 mod services;

@@ -1,5 +1,8 @@
 //! What is written for a line.
 
+use crate::names::Name;
+use crate::reports::queues::Queued;
+use crate::reports::stuck::Stuck;
 use crate::request::Answer;
 use crate::tables::{Area, Ecb, Entry, Step, Task};
 
@@ -56,6 +59,31 @@ fn row(out: &mut Vec<u8>, word: &str, numbers: &[u32]) {
         out.push(b' ');
         decimal(out, *value as u64);
     }
+}
+
+/// "MAJOR is 16 hex digits and MINOR the minor part's own bytes in hex (not padded)"
+fn name(out: &mut Vec<u8>, name: &Name) {
+    hex(out, &name.major);
+    out.push(b'.');
+    hex(out, &name.minor[..name.length as usize]);
+}
+
+/// `stuck TASK MAJOR.MINOR PARTNER`
+pub fn stuck(out: &mut Vec<u8>, item: &Stuck) {
+    row(out, "stuck", &[item.task]);
+    out.push(b' ');
+    name(out, &item.name);
+    row(out, "", &[item.partner]);
+    out.push(b'\n');
+}
+
+/// `queue MAJOR.MINOR TASK own` or `.. wait`
+pub fn queued(out: &mut Vec<u8>, item: &Queued) {
+    out.extend_from_slice(b"queue ");
+    name(out, &item.name);
+    row(out, "", &[item.task]);
+    let state: &[u8] = if item.owns { b" own\n" } else { b" wait\n" };
+    out.extend_from_slice(state);
 }
 
 /// "Only places with at least one field not zero are printed, in this order, each sort

@@ -4,6 +4,9 @@ use std::io::{BufRead, Result, Write};
 
 use crate::poke;
 use crate::printer::{self, FILL};
+use crate::reports::queues::{self, Queued};
+use crate::reports::stuck::{self, Stuck};
+use crate::reports::{report, Report};
 use crate::request::{Answer, Request};
 use crate::script::{Line, Reader, MOST_CODES};
 use crate::services::serve;
@@ -19,6 +22,7 @@ pub enum Outcome {
     Dumped,
     Started(Answer),
     Served(Request, Answer),
+    Reported(Report, Answer),
 }
 
 pub struct Runner {
@@ -27,6 +31,9 @@ pub struct Runner {
     reader: Reader,
     codes: [u8; MOST_CODES as usize],
     codes_length: usize,
+    /// The list areas, as long as the last line lent them.
+    pub stuck: Vec<Stuck>,
+    pub queued: Vec<Queued>,
 }
 
 impl Runner {
@@ -38,6 +45,8 @@ impl Runner {
             reader: Reader::new(),
             codes: [FILL; MOST_CODES as usize],
             codes_length: 0,
+            stuck: Vec::new(),
+            queued: Vec::new(),
         }
     }
 
@@ -70,6 +79,21 @@ impl Runner {
                 let answer = serve(&mut self.step, &request, self.reader.lists(), area);
                 Outcome::Served(request, answer)
             }
+            Line::Report { report, room } => Outcome::Reported(report, self.report(report, room)),
+        }
+    }
+
+    /// Lend a list area of so many items and have a report written there.
+    fn report(&mut self, which: Report, room: usize) -> Answer {
+        match which {
+            Report::Stuck => {
+                self.stuck = vec![Stuck::NONE; room];
+                report(&self.step, stuck::list, &mut self.stuck)
+            }
+            Report::Queues => {
+                self.queued = vec![Queued::NONE; room];
+                report(&self.step, queues::list, &mut self.queued)
+            }
         }
     }
 
@@ -83,6 +107,20 @@ impl Runner {
             Outcome::Dumped => printer::dump(out, &self.step),
             Outcome::Started(answer) | Outcome::Served(_, answer) => {
                 printer::answer(out, answer, &self.codes[..self.codes_length])
+            }
+            Outcome::Reported(report, answer) => {
+                printer::answer(out, answer, &[]);
+                self.print_list(report, answer.value as usize, out);
+            }
+        }
+    }
+
+    /// The items of the report just made, one to a line; a refusal has none.
+    fn print_list(&self, report: Report, count: usize, out: &mut Vec<u8>) {
+        match report {
+            Report::Stuck => self.stuck[..count].iter().for_each(|item| printer::stuck(out, item)),
+            Report::Queues => {
+                self.queued[..count].iter().for_each(|item| printer::queued(out, item))
             }
         }
     }

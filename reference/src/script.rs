@@ -2,6 +2,7 @@
 
 use crate::names::Asked;
 use crate::poke::{self, Poke};
+use crate::reports::Report;
 use crate::request::{Lists, Request, Ret};
 use crate::words::{asked, name, number, number_or_none, number_to, signed, Words};
 
@@ -11,6 +12,8 @@ pub const LONGEST: usize = 16_383;
 pub const MOST_LISTED: usize = 20;
 /// "CODESLEN (at most 64, else unreadable)"
 pub const MOST_CODES: u32 = 64;
+/// "ROOM (at most 255, else unreadable)"
+pub const MOST_ROOM: u32 = 255;
 
 /// What a line is.
 #[derive(Clone, Copy, Debug)]
@@ -25,6 +28,10 @@ pub enum Line {
     Request {
         request: Request,
         codes: usize,
+    },
+    Report {
+        report: Report,
+        room: usize,
     },
     Dump,
     Poke(Poke),
@@ -77,6 +84,8 @@ impl Reader {
             (b"enq", [caller, ret, codes, names @ ..]) => self.enq(caller, ret, codes, names),
             (b"deq", [caller, ret, codes, names @ ..]) => self.deq(caller, ret, codes, names),
             (b"wait", [caller, count, ecbs @ ..]) => self.wait(caller, count, ecbs),
+            (b"stuck", [room]) => report(Report::Stuck, room),
+            (b"queues", [room]) => report(Report::Queues, room),
             (service, _) => {
                 let request = plain(service, rest)?;
                 Some(Line::Request { request, codes: 0 })
@@ -137,6 +146,11 @@ impl Reader {
         }
         Some(())
     }
+}
+
+/// "ROOM .. is the list area's length in items"
+fn report(report: Report, room: &[u8]) -> Option<Line> {
+    Some(Line::Report { report, room: number_to(room, MOST_ROOM)? as usize })
 }
 
 /// The services without a list.

@@ -2,6 +2,7 @@
 
 use std::io::Result;
 
+use super::habits::SORTS;
 use super::Generator;
 use crate::numbers::{AREAS, ENTRIES};
 use crate::poke::{AREA_FIELDS, ECB_FIELDS, ENTRY_FIELDS, TASK_FIELDS};
@@ -57,7 +58,7 @@ impl<'a> Generator<'a> {
             places.extend(place);
         }
         for _ in 0..self.random.between(1, 3) {
-            let sort = self.random.below(12) as usize;
+            let sort = self.random.below(SORTS as u32) as usize;
             let line = self.line_of(sort);
             self.say(&line)?;
         }

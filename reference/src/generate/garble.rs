@@ -2,6 +2,7 @@
 
 use std::io::Result;
 
+use super::habits::SORTS;
 use super::Generator;
 
 const EDGES: [u32; 28] = [
@@ -36,7 +37,7 @@ const EDGES: [u32; 28] = [
 ];
 
 /// Lines that are near a readable one.
-const UNREADABLE: [&str; 20] = [
+const UNREADABLE: [&str; 27] = [
     "poke",
     "poke step over",
     "poke task 0 state 0",
@@ -57,6 +58,13 @@ const UNREADABLE: [&str; 20] = [
     "poke task 1 limit 4294967296",
     "poke entry 128 task 0",
     "dumps",
+    "stuck",
+    "stuck 256",
+    "stuck 1 2",
+    "stuck -1",
+    "queue 1",
+    "queues 256",
+    "queues 00000000001",
 ];
 
 impl<'a> Generator<'a> {
@@ -65,6 +73,9 @@ impl<'a> Generator<'a> {
         let mut words: Vec<String> = line.split(' ').map(|word| word.to_string()).collect();
         if words.len() < 2 {
             return line.to_string();
+        }
+        if words[0] == "stuck" || words[0] == "queues" {
+            return format!("{} {}", words[0], self.edge());
         }
         if words[0] == "abend" && words.len() == 3 && self.random.one_in(2) {
             words.push("step".to_string());
@@ -175,7 +186,7 @@ impl<'a> Generator<'a> {
     }
 
     pub fn text_line(&mut self) -> Result<()> {
-        let sort = self.random.below(12) as usize;
+        let sort = self.random.below(SORTS as u32) as usize;
         let line = self.line_of(sort);
         let line = match self.random.below(24) {
             0 => format!("#{}", line),

@@ -39,7 +39,7 @@ impl<'a> Generator<'a> {
         self.line_of(sort)
     }
 
-    /// A line of the service with this place in the list of twelve.
+    /// A line of the service or report with this place in the list of habits.
     pub fn line_of(&mut self, sort: usize) -> String {
         match sort {
             0 => self.attach_line(),
@@ -53,7 +53,9 @@ impl<'a> Generator<'a> {
             8 => self.clear_line(),
             9 => self.getmain_line(),
             10 => self.freemain_line(),
-            _ => "dispatch".to_string(),
+            11 => "dispatch".to_string(),
+            12 => self.stuck_line(),
+            _ => self.queues_line(),
         }
     }
 

@@ -9,6 +9,8 @@ mod garble;
 mod habits;
 mod lines;
 mod plays;
+mod reports;
+mod storm;
 
 use std::io::{Result, Write};
 
@@ -17,19 +19,23 @@ use crate::random::Random;
 use crate::runner::{Outcome, Runner};
 use crate::sound::is_sound;
 
-pub const KINDS: [&str; 10] =
-    ["mixed", "tasks", "queue", "events", "storage", "broken", "text", "full", "habit", "rings"];
+pub const KINDS: [&str; 11] = [
+    "mixed", "tasks", "queue", "events", "storage", "broken", "text", "full", "habit", "rings",
+    "reports",
+];
 
 pub struct Generator<'a> {
     random: Random,
     runner: Runner,
     output: &'a mut dyn Write,
-    requests: u64,
+    /// Requests and reports so far.
+    asked: u64,
+    /// Requests since the last dump; a report changes nothing.
     since_dump: u32,
     habits: Habits,
 }
 
-/// Write a script of about `count` requests.
+/// Write a script of about `count` requests and reports.
 pub fn generate(seed: u64, kind: &str, count: u64, output: &mut dyn Write) -> Result<bool> {
     let place = match KINDS.iter().position(|known| *known == kind) {
         Some(place) => place as u64,
@@ -39,9 +45,9 @@ pub fn generate(seed: u64, kind: &str, count: u64, output: &mut dyn Write) -> Re
     random.next();
     let habits = habits_of(kind);
     let runner = Runner::new();
-    let mut generator = Generator { random, runner, output, requests: 0, since_dump: 0, habits };
+    let mut generator = Generator { random, runner, output, asked: 0, since_dump: 0, habits };
     generator.say(&format!("# {} {} {}", kind, seed, count))?;
-    while generator.requests < count {
+    while generator.asked < count {
         generator.turn(kind)?;
     }
     // "the last LF may be missing"
@@ -62,9 +68,10 @@ impl<'a> Generator<'a> {
         let outcome = self.runner.take(line);
         match outcome {
             Outcome::Served(..) | Outcome::Started(..) => {
-                self.requests += 1;
+                self.asked += 1;
                 self.since_dump += 1;
             }
+            Outcome::Reported(..) => self.asked += 1,
             Outcome::Dumped => self.since_dump = 0,
             _ => {}
         }
@@ -76,11 +83,14 @@ impl<'a> Generator<'a> {
         if self.since_dump > 40 {
             self.say("dump")?;
         }
+        if kind == "reports" {
+            return self.storm();
+        }
         if self.runner.step.over != 0 || !is_sound(&self.runner.step) {
             return self.over();
         }
         if self.nobody_is_ready() {
-            return self.stuck();
+            return self.idle();
         }
         match kind {
             "broken" if self.random.one_in(4) => self.break_and_mend(),
@@ -120,7 +130,7 @@ impl<'a> Generator<'a> {
     }
 
     /// Nobody is ready: requests get 103 and 102, DISPATCH answers 0; then a fresh start.
-    fn stuck(&mut self) -> Result<()> {
+    fn idle(&mut self) -> Result<()> {
         self.say("dispatch")?;
         for _ in 0..self.random.below(3) {
             self.request()?;

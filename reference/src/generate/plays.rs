@@ -4,9 +4,9 @@ use std::io::Result;
 
 use super::lines::text_of;
 use super::Generator;
-use crate::control::is_on_ring;
 use crate::names::Name;
 use crate::numbers::{AREAS, ENTRIES, TASKS};
+use crate::rings::Waits;
 
 impl<'a> Generator<'a> {
     /// Tasks that each take a name of their own and then ask for the next one's.
@@ -27,6 +27,7 @@ impl<'a> Generator<'a> {
             self.take_name(ready[i], &names[(i + 1) % size])?;
         }
         self.say("dump")?;
+        self.report()?;
         for _ in 0..self.random.below(8) {
             self.request()?;
         }
@@ -46,9 +47,11 @@ impl<'a> Generator<'a> {
             child = at;
             at = self.runner.step.tasks[at as usize].mother;
         }
-        if is_on_ring(&self.runner.step, task) && at != 0 && self.is_ready(at) {
+        let on_ring = Waits::among(self.runner.step.used_entries()).is_on_ring(task);
+        if on_ring && at != 0 && self.is_ready(at) {
             self.say(&format!("detach {} {}", at, child))?;
             self.say("dispatch")?;
+            self.report()?;
         }
         Ok(())
     }
@@ -58,7 +61,7 @@ impl<'a> Generator<'a> {
         let caller = self.caller_where(|_, n| n != 1);
         let held = self.held_by(caller);
         if self.random.percent(15) {
-            let sort = self.random.pick(&[0, 0, 0, 1, 2, 7, 11]);
+            let sort = self.random.pick(&[0, 0, 0, 1, 2, 7, 11, 12, 13]);
             let line = self.line_of(sort);
             return self.say(&line).map(|_| ());
         }
@@ -139,6 +142,7 @@ impl<'a> Generator<'a> {
             let line = self.line_of(4);
             self.say(&line)?;
         }
+        self.report()?;
         Ok(())
     }
 

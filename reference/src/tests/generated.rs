@@ -1,9 +1,10 @@
 //! Generated scripts: what must hold at every request.
 
-use crate::control::is_on_ring;
 use crate::generate::{generate, KINDS};
-use crate::numbers::TASKS;
+use crate::numbers::{ENTRIES, TASKS};
+use crate::reports::Report;
 use crate::request::Answer;
+use crate::rings::Waits;
 use crate::runner::{each_line, Outcome, Runner};
 use crate::sound::is_sound;
 
@@ -13,14 +14,20 @@ fn script(seed: u64, kind: &str, count: u64) -> Vec<u8> {
     out
 }
 
-/// Calls back with the tables before and after each request of a script.
+/// Calls back with the tables before and after each request and report of a script; a
+/// report changes nothing.
 fn each_request<F: FnMut(&Runner, &Runner, Answer)>(script: &[u8], mut each: F) {
     let mut runner = Runner::new();
     let mut before = Runner::new();
     each_line(&mut &script[..], |line| {
         before.step = runner.step.clone();
-        if let Outcome::Served(_, answer) = runner.take(line) {
-            each(&before, &runner, answer);
+        match runner.take(line) {
+            Outcome::Served(_, answer) => each(&before, &runner, answer),
+            Outcome::Reported(_, answer) => {
+                assert!(before.step == runner.step, "{}", runner.line);
+                each(&before, &runner, answer);
+            }
+            _ => {}
         }
         Ok(())
     })
@@ -60,13 +67,34 @@ fn rings() {
     let on_rings = |kind: &str| {
         let mut found = 0;
         each_request(&script(1, kind, 1500), |_, after, _| {
-            let step = &after.step;
-            found += (1..=TASKS)
-                .filter(|n| step.tasks[*n as usize].rwait == 1 && is_on_ring(step, *n))
-                .count();
+            let on_rings = Waits::among(after.step.used_entries()).on_rings();
+            found += on_rings.iter().filter(|mark| **mark).count();
         });
         found
     };
     assert_eq!(on_rings("habit"), 0);
     assert!(on_rings("rings") > 50);
+}
+
+/// The kind `reports`: full tables with rings, and mostly reports.
+#[test]
+fn reports() {
+    let mut runner = Runner::new();
+    let (mut others, mut lists, mut full, mut stuck) = (0, 0, 0, 0);
+    each_line(&mut &script(1, "reports", 3000)[..], |line| {
+        match runner.take(line) {
+            Outcome::Served(..) => others += 1,
+            Outcome::Reported(report, answer) => {
+                lists += 1;
+                let tasks = runner.step.tasks.iter().filter(|task| task.state != 0).count();
+                full += (tasks == TASKS as usize && runner.step.entry_count == ENTRIES) as u32;
+                stuck += (report == Report::Stuck && answer.value > 3) as u32;
+            }
+            _ => {}
+        }
+        Ok(())
+    })
+    .unwrap();
+    assert!(others > 100 && lists > 2 * others, "{} {}", others, lists);
+    assert!(10 * full > 9 * lists && 3 * stuck > lists, "{} {} {}", full, stuck, lists);
 }

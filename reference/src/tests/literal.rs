@@ -2,8 +2,10 @@
 
 use crate::control::has_control;
 use crate::names::Name;
-use crate::numbers::{GRAIN, PAGE, REGION};
+use crate::numbers::{GRAIN, PAGE, REGION, TASKS};
 use crate::random::Random;
+use crate::reports::stuck;
+use crate::rings::Waits;
 use crate::runner::Runner;
 use crate::services::getmain::lowest_fit;
 use crate::sound::is_sound;
@@ -125,5 +127,69 @@ fn control_by_its_words() {
             let shared = entries[i].excl == 0 && before.all(|e| e.excl == 0);
             assert_eq!(has_control(&entries, i), first || shared);
         }
+    }
+}
+
+/// "A has an entry without control and B an earlier one for that name, one of the two being
+/// exclusive"
+fn waits_at(entries: &[Entry], place: usize, b: u32) -> bool {
+    let entry = &entries[place];
+    let bars = |e: &Entry| e.name == entry.name && (e.excl == 1 || entry.excl == 1);
+    b != entry.task
+        && !has_control(entries, place)
+        && entries[..place].iter().any(|e| e.task == b && bars(e))
+}
+
+fn places_of(entries: &[Entry], task: u32) -> impl Iterator<Item = usize> + '_ {
+    (0..entries.len()).filter(move |place| entries[*place].task == task)
+}
+
+/// Is there a chain of so many steps or fewer from one task to another?
+fn steps_lead(waits: &[Vec<bool>], from: usize, to: usize, most: u32) -> bool {
+    waits[from][to]
+        || (most > 1
+            && (0..waits.len()).any(|b| waits[from][b] && steps_lead(waits, b, to, most - 1)))
+}
+
+/// Queues of a few tasks, the numbers up to 32: rings and the first report by the words.
+#[test]
+fn rings_by_their_words() {
+    let mut random = Random::new(8);
+    let tasks = [1, 2, 9, 31, 32];
+    let mut seen = [0; 6];
+    for _ in 0..20_000 {
+        let mut entries = Vec::new();
+        for _ in 0..random.between(2, 16) {
+            let name = Name { length: 1 + random.below(4), ..Name::NONE };
+            let task = random.pick(&tasks);
+            if !entries.iter().any(|e: &Entry| e.task == task && e.name == name) {
+                entries.push(Entry { task, excl: random.below(2), name });
+            }
+        }
+        let waits_for = |a, b| places_of(&entries, a).any(|place| waits_at(&entries, place, b));
+        let waits: Vec<Vec<bool>> =
+            tasks.iter().map(|a| tasks.iter().map(|b| waits_for(*a, *b)).collect()).collect();
+        let on_ring = |i: usize| steps_lead(&waits, i, i, tasks.len() as u32);
+        let stuck: Vec<u32> = (0..5).filter(|i| on_ring(*i)).map(|i| tasks[i]).collect();
+        let marks = Waits::among(&entries).on_rings();
+        let marked: Vec<u32> = (1..=TASKS).filter(|task| marks[*task as usize]).collect();
+        assert_eq!(marked, stuck, "{:?}", entries);
+        check_items(&entries, &stuck);
+        seen[stuck.len()] += 1;
+    }
+    assert!(seen[1] == 0 && seen.iter().filter(|count| **count > 20).count() == 5, "{:?}", seen);
+}
+
+/// Each stuck task once; no earlier entry and no earlier partner would do.
+fn check_items(entries: &[Entry], stuck: &[u32]) {
+    let items = stuck::list(entries);
+    assert_eq!(items.iter().map(|item| item.task).collect::<Vec<u32>>(), stuck);
+    for item in items {
+        let waits_there = |place: &usize| stuck.iter().any(|b| waits_at(entries, *place, *b));
+        let place = places_of(entries, item.task).find(waits_there).unwrap();
+        assert_eq!(item.name, entries[place].name);
+        let first = |b: u32| entries.iter().position(|e| e.task == b && e.name == item.name);
+        let partners = stuck.iter().filter(|b| waits_at(entries, place, **b));
+        assert_eq!(Some(&item.partner), partners.min_by_key(|b| first(**b)));
     }
 }

@@ -5,6 +5,7 @@ mod generated;
 mod hand;
 mod literal;
 mod refusals;
+mod reports;
 mod text;
 mod unsound;
 

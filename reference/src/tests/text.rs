@@ -13,7 +13,7 @@ fn nothing_and_the_last_line() {
     assert_eq!(output(b"\xff\n \n"), b"? 1\n? 2\n");
 }
 
-const UNREADABLE: [&str; 76] = [
+const UNREADABLE: [&str; 87] = [
     " dispatch",
     "dispatch ",
     "dispatch x",
@@ -90,6 +90,17 @@ const UNREADABLE: [&str; 76] = [
     "poke area 0 task 0",
     "poke area 0 owner x",
     "poke task 1 limit -1",
+    "stuck",
+    "stuck ",
+    "stuck 256",
+    "stuck 4294967295",
+    "stuck -1",
+    "stuck 1 2",
+    "Stuck 1",
+    "queues",
+    "queues 256",
+    "queues x",
+    "queue 1",
 ];
 
 #[test]

@@ -1,12 +1,12 @@
 -- The codes of the names beside a request, from the flags of each.
 use mathlib.Core.Path.{_≡_, refl, sym, ap, _∙_}
 use mathlib.Core.Bool.{Bool, true, false}
-use mathlib.Core.List.{List, [], _++_, map, map-map}
+use mathlib.Core.List.{List, [], map, map-map}
 use Prim.Native.Nat.{ℕ, _+_, _≤_, _<_}
 use native.Mathlib.Omega.{arith}
 use native.Mathlib.Nat.{zero-add}
-use lib.ListN.{length, getD, take, drop, set, replicate, length-map, List·getD-map}
-use lib.Seq.{getD-take, length-take-le}
+use lib.ListN.{length, getD, take, set, replicate, length-map, List·getD-map}
+use lib.Seq.{getD-take}
 use Rattle.lists.specs.Lists.{numbers}
 use Rattle.lists.specs.Pick.{pick}
 use Rattle.lists.specs.Tables.{padded}
@@ -22,7 +22,6 @@ use Rattle.kinds.specs.declared.requests.DeqRet.the-variants.{None as DeqNone, 
 use Rattle.names.specs.Named.{askOf, namesIn}
 use Rattle.rules.specs.Names.{Resource, Ask, nameOf, namesOf}
 use Rattle.rules.specs.Control.{Entry, hasEntry, available, soleOwner}
-use Rattle.rules.specs.Codes.{writtenOn}
 use Rattle.rules.specs.Enq.{enqCode, enqCodes}
 use Rattle.rules.specs.Deq.{deqCode, deqCodes}
 use Rattle.flags.specs.Flagging.{flagsOf}
@@ -150,9 +149,3 @@ module _ (q : List Entry) (c : ℕ) (l : NameList) (h : l .count ≤ length (l .
   deq-front ret =
       codes-front _ (l .count)
       (length-map (namesOf (namesIn l)) (deqCode ret q c) ∙ length-map (namesIn l .asks) nameOf ∙ asks-length l h)
-
--- the first n codes at the front of an area
-pub written-all : (codes area : List ℕ) (i n : ℕ) → i ≡ n → n ≤ length codes
-    → take i codes ++ drop i area ≡ writtenOn (take n codes) area
-unfolding writtenOn
-written-all codes area i n e h = rw (e, length-take-le n codes)

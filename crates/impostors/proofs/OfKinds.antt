@@ -19,7 +19,7 @@ use Rattle.kinds.specs.declared.numbers.MaybeAddress.{MaybeAddress}
 use Rattle.kinds.specs.declared.numbers.MaybeAddress.the-variants.{At, Nowhere}
 use Rattle.kinds.specs.declared.replies.Refusal.the-variants.{NotLive}
 use Rattle.kinds.specs.declared.replies.Fault.the-variants.{DuplicateEnq, AlreadyWaitedOn, NotSubtask}
-use Rattle.kinds.specs.declared.replies.Reply.the-variants.{Attached, Got, Dispatched, Four, Refused}
+use Rattle.kinds.specs.declared.replies.Reply.the-variants.{Attached, Got, Dispatched, Counted, Four, Refused}
 use Rattle.kinds.specs.declared.tasks.Condition.{Condition}
 use Rattle.kinds.specs.declared.tasks.Condition.the-variants.{Free, Ready, ResourceWait, EcbWait, Ended}
 use Rattle.kinds.specs.declared.tasks.MaybeEcb.the-variants.{NoEcb, Named}
@@ -369,6 +369,11 @@ Reply-besides-the-refusal = wrong-at tt (Refused NotLive, tt) refl tt (λ n. eqb
 pub Reply-besides-addresses-only : RuledOut (λ k. fits-Reply ⊗ fits-end) Reply-besides.Pre Reply-besides.Post
     (λ k a. cond (eqb (kindOf (besidesIn (a .0))) 2) (besidesOf (a .0)) 0)
 Reply-besides-addresses-only = wrong-at tt (Attached (task 2), tt) refl tt (λ n. eqb n 0) refl refl
+
+-- a report's number of items is not told
+pub Reply-besides-no-items : RuledOut (λ k. fits-Reply ⊗ fits-end) Reply-besides.Pre Reply-besides.Post
+    (λ k a. cond (eqb (kindOf (besidesIn (a .0))) 4) 0 (besidesOf (a .0)))
+Reply-besides-no-items = wrong-at tt (Counted 2, tt) refl tt (λ n. eqb n 0) refl refl
 
 -- an address is cut to a byte, as numbers of tasks are: 264 is told as 8
 pub Reply-besides-cut-to-a-byte : RuledOut (λ k. fits-Reply ⊗ fits-end) Reply-besides.Pre Reply-besides.Post

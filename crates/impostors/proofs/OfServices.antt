@@ -697,6 +697,16 @@ stuck-of-unsound-tables =
     wrong-with ([], tt) (on (tablesOf (withQueue start (record { task = 2; exclusive = true; name = x } ∷ []))) 0) refl
     tt (λ o. eqb (o .outcome .number) 0) refl refl
 
+-- the number of items is told as that of a new task: 2
+abbrev retoldReport : (Step → List ℕ → Served Step) → Step → List ℕ → Served Step
+retoldReport f s area = record { outcome = retelling (f s area .outcome); codes = f s area .codes }
+
+pub stuck-answers-a-new-number : RuledOutWith (λ k. fits-Reports) stuck.Pre stuck.Post
+    (λ k a. reporting a (retoldReport stuckReport))
+unfolding tables-open
+stuck-answers-a-new-number =
+    stuck-otherwise (retoldReport stuckReport) ringOfTwo 6 refl (λ o. eqb (kindOf (o .outcome .besides)) 1) refl refl
+
 -- a waiter is shown as owner: 3, who waits for x
 abbrev allOwners : Step → List ℕ → Served Step
 allOwners = reportOf (λ q. itemised (λ x. x .place ∷ 1 ∷ []) (queuesOf q))
@@ -732,3 +742,10 @@ countingBytes = reportOf (λ q. record { items = length (queuesList q .bytes); b
 pub queues-tells-the-bytes : RuledOutWith (λ k. fits-Reports) queues.Pre queues.Post (λ k a. reporting a countingBytes)
 unfolding tables-open
 queues-tells-the-bytes = queues-otherwise countingBytes owned 2 refl (itemsAre 2) refl refl
+
+-- the number of items is told as that of a new task: 1
+pub queues-answers-a-new-number : RuledOutWith (λ k. fits-Reports) queues.Pre queues.Post
+    (λ k a. reporting a (retoldReport queuesReport))
+unfolding tables-open
+queues-answers-a-new-number =
+    queues-otherwise (retoldReport queuesReport) owned 2 refl (λ o. eqb (kindOf (o .outcome .besides)) 1) refl refl

@@ -1,7 +1,7 @@
 -- The different elements of a list, each where it stands first, and a list put in groups: for each key in the order of
 -- firsts, the elements that have it, in their order. Over any test by which two are the same.
 use mathlib.Core.Path.{_≡_, refl, sym, ap, ap₂, _∙_}
-use mathlib.Core.Bool.{Bool, true, false, not, cond, _&&_, _||_, and-comm}
+use mathlib.Core.Bool.{Bool, true, false, not, cond, _&&_, _||_, and-comm, and-false}
 use mathlib.Core.List.{List, [], _∷_, _++_, map, append-nil}
 use Prim.Native.Nat.{suc, _+_}
 use native.Mathlib.Omega.{arith}
@@ -11,9 +11,14 @@ use borrow.Author.Tests.{eqb-true, eq-eqb, not-true}
 use Rattle.lists.specs.Lists.{keep, every, some, distinct, firstsBy, gathered}
 use Rattle.lists.specs.Bools.{both, join, same-test, not-so, never}
 use Rattle.lists.specs.Keeping.{keep-append, keep-same, keep-all, keep-map, distinct-keep}
-use Rattle.laws.specs.Among.{all-kept, eqb-swap}
+use Rattle.laws.specs.Among.{some-same, some-kept, all-kept, eqb-swap}
 
 -- WHAT IS KEPT OF WHAT IS KEPT
+
+-- a test that the other gives asks no more
+no-more : (a b : Bool) → (a ≡ true → b ≡ true) → (b && a) ≡ a
+no-more true b k = rw (k refl)
+no-more false b k = and-false b
 
 module _ {A : Type 0} where
   pub keep-both : (f g : A → Bool) (l : List A) → keep f (keep g l) ≡ keep (λ (x : A). g x && f x) l
@@ -35,13 +40,7 @@ module _ {A : Type 0} where
   -- a test that gives the other
   pub keep-given : (f g : A → Bool) → ((x : A) → f x ≡ true → g x ≡ true) → (l : List A) → keep f (keep g l) ≡ keep f l
   keep-given f g h l =
-      keep-both f g l ∙ keep-same (λ (x : A). g x && f x) f l (λ x. one (f x) (g x) (h x))
-    where
-      one : (a b : Bool) → (a ≡ true → b ≡ true) → (b && a) ≡ a
-      one true true k = refl
-      one true false k = k refl
-      one false true k = refl
-      one false false k = refl
+      keep-both f g l ∙ keep-same (λ (x : A). g x && f x) f l (λ x. no-more (f x) (g x) (h x))
 
   -- a test that rules the other out
   pub keep-against : (f g : A → Bool) → ((x : A) → g x ≡ true → f x ≡ false) → (l : List A) → keep f (keep g l) ≡ []
@@ -54,15 +53,8 @@ module _ {A : Type 0} where
       one false k e = e
 
   pub some-given : (p f : A → Bool) → ((x : A) → p x ≡ true → f x ≡ true) → (l : List A) → some p (keep f l) ≡ some p l
-  some-given p f h [] = refl
-  some-given p f h (x ∷ l) = one (p x) (f x) refl (h x) (some-given p f h l)
-    where
-      one : (a b : Bool) → p x ≡ a → (a ≡ true → b ≡ true) → some p (keep f l) ≡ some p l
-          → some p (cond b (x ∷ keep f l) (keep f l)) ≡ (a || some p l)
-      one true true q k e = rw q
-      one true false q k e = never false (k refl) refl
-      one false true q k e = rw q e
-      one false false q k e = e
+  some-given p f h l =
+      some-kept p f l ∙ some-same (λ (x : A). f x && p x) p (λ x. no-more (p x) (f x) (h x)) l
 
   -- those that pass and those that don't are all
   pub keep-parts : (f : A → Bool) (l : List A) → length (keep f l) + length (keep (λ (x : A). not (f x)) l) ≡ length l

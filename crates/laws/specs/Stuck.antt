@@ -4,17 +4,17 @@ use mathlib.Core.Bool.{Bool, true, false, not, _&&_}
 use mathlib.Core.List.{List, [], _∷_, _++_, map}
 use Prim.Native.Nat.{ℕ, _≤_}
 use native.Mathlib.Omega.{arith}
-use lib.Dec.{eqb, leb, ltb}
+use lib.Dec.{eqb, ltb}
 use lib.ListN.{length, length-map}
-use borrow.Author.Tests.{eqb-true, eq-eqb, leb-true, ltb-false, not-true}
+use borrow.Author.Tests.{eqb-true, eq-eqb, not-true}
 use Rattle.lists.specs.Lists.{every, some, none, keep, pairwise, gathered, numbers}
 use Rattle.lists.specs.Bools.{both, join, not-so}
 use Rattle.lists.specs.Every.{none-every}
 use Rattle.lists.specs.Keeping.{keep-same, keep-none, length-keep, pairwise-keep}
 use Rattle.lists.specs.Numbered.{length-numbers}
-use Rattle.lists.specs.Pick.{chain-not}
 use Rattle.kinds.specs.Limits.{lowestTask, highestTask}
-use Rattle.kinds.specs.Ranges.{between, taskGood}
+use Rattle.kinds.specs.Ranges.{taskGood}
+use Rattle.kinds.specs.Within.{within}
 use Rattle.rules.specs.Control.{Entry, control}
 use Rattle.rules.specs.Rings.{bars, waitsFor, Ring, stuck}
 use Rattle.rules.specs.Steps.{Step}
@@ -36,12 +36,8 @@ few-of : (m k l n : ℕ) → m ≡ k → k ≤ l → l ≡ n → m ≤ n
 few-of m k l n e h f = omega arith
 
 good-listed : (t : ℕ) → taskGood t ≡ true → some (eqb t) (numbers 1 highestTask) ≡ true
-unfolding between
 good-listed t h =
-    let c = chain-not (ltb t lowestTask) (leb t highestTask) h in
-    let low = ltb-false t lowestTask (c .0) in
-    let high = leb-true t highestTask (c .1) in
-    numbers-has t 1 highestTask (omega arith) (omega arith)
+    let w = within lowestTask highestTask t h in numbers-has t 1 highestTask (w .0) (omega (arith, w .1))
 
 module _ (q : List Entry) where
   -- a stuck task waits for a stuck one, so a line is there

@@ -4,17 +4,17 @@ use mathlib.Core.Bool.{true}
 use mathlib.Core.List.{map, map-map}
 use Prim.Native.Nat.{ℕ, _≤_, _<_}
 use native.Mathlib.Omega.{arith}
-use lib.Dec.{eqb, ltb, leb}
+use lib.Dec.{eqb}
 use lib.ListN.{length, getD, take, length-map, List·getD-map}
 use lib.Seq.{getD-take, length-take-le}
-use borrow.Author.Tests.{leb-true}
 use Rattle.lists.specs.Lists.{every}
 use Rattle.lists.specs.Keeping.{take-map}
 use Rattle.lists.specs.Setting.{every-at}
 use Rattle.lists.specs.Bools.{both}
-use Rattle.lists.specs.Pick.{chain-and, chain-not}
+use Rattle.lists.specs.Pick.{chain-and}
 use Rattle.kinds.specs.Limits.{longestList, longestMinor, majorBytes}
-use Rattle.kinds.specs.Ranges.{between, countGood}
+use Rattle.kinds.specs.Ranges.{countGood}
+use Rattle.kinds.specs.Within.{within}
 use Rattle.kinds.specs.declared.names.Wanted.{Wanted}
 use Rattle.kinds.specs.declared.names.NameList.{NameList}
 use Rattle.rules.specs.Names.{Resource, Names, legal, nameOf, namesOf, namesGood}
@@ -25,14 +25,9 @@ pub listed : (l : NameList) → namesOf (namesIn l) ≡ take (l .count) (map wan
 listed l =
     sym (take-map nameOf (l .count) (map askOf (l .names))) ∙ ap (take (l .count)) (map-map nameOf askOf (l .names))
 
--- what is in range is at most the highest
-at-most : (lowest highest n : ℕ) → between lowest highest n ≡ true → n ≤ highest
-unfolding between
-at-most lowest highest n h = leb-true n highest (chain-not (ltb n lowest) (leb n highest) h .1)
-
 -- a good count
 pub count-few : (n : ℕ) → countGood n ≡ true → n ≤ longestList
-count-few n h = at-most 1 longestList n h
+count-few n h = within 1 longestList n h .1
 
 -- what is known of a good list
 pub good-count : (l : Names) → namesGood l ≡ true → l .count ≤ longestList
@@ -46,7 +41,7 @@ good-legal l h = chain-and (every legal (namesOf l)) _ (chain-and (countGood (l 
 -- a legal name's minor part is within its array
 pub legal-short : (n : Resource) → legal n ≡ true → length (n .minor) ≤ longestMinor
 unfolding legal
-legal-short n h = at-most 1 longestMinor _ (both (eqb (length (n .major)) majorBytes) _ h .1)
+legal-short n h = within 1 longestMinor _ (both (eqb (length (n .major)) majorBytes) _ h .1) .1
 
 pub name-short : (l : NameList) (i : ℕ) (d : Wanted) → i < l .count → l .count ≤ length (l .names)
     → every legal (namesOf (namesIn l)) ≡ true → getD (l .names) i d .name .length ≤ longestMinor

@@ -4,22 +4,19 @@ use mathlib.Core.Bool.{true}
 use mathlib.Core.List.{List, map}
 use Prim.Native.Nat.{ℕ, _≤_, _<_}
 use native.Mathlib.Omega.{arith}
-use lib.Dec.{leb, ltb}
 use lib.ListN.{length, take, getD, length-map, List·getD-map}
 use lib.Seq.{length-take-le, getD-take}
-use borrow.Author.Tests.{leb-true}
-use Rattle.lists.specs.Pick.{chain-not}
 use Rattle.lists.specs.Lists.{every}
 use Rattle.lists.specs.Setting.{every-at}
 use Rattle.kinds.specs.Limits.{lowestTask, highestTask}
-use Rattle.kinds.specs.Ranges.{between, taskGood}
+use Rattle.kinds.specs.Ranges.{taskGood}
+use Rattle.kinds.specs.Within.{within}
 use Rattle.kinds.specs.declared.names.Slot.{Slot}
 use Rattle.rules.specs.Control.{Entry}
 use Rattle.queue.specs.Queues.{entryOf}
 
 pub good-high : (k : ℕ) → taskGood k ≡ true → k ≤ highestTask
-unfolding between
-good-high k h = leb-true k highestTask (chain-not (ltb k lowestTask) (leb k highestTask) h .1)
+good-high k h = within lowestTask highestTask k h .1
 
 pub task-high : (es : List Slot) (n i : ℕ) (d : Slot)
     → every (λ (e : Entry). taskGood (e .task)) (take n (map entryOf es)) ≡ true → i < n → n ≤ length es

@@ -10,9 +10,9 @@ use Rattle.lists.specs.Lists.{gathered}
 use Rattle.lists.specs.Pick.{on-true, on-false}
 use Rattle.lists.specs.Tables.{padded-take, push, one-longer}
 use Rattle.laws.specs.Gathering.{gathered-next}
+use Rattle.laws.specs.Written.{written-all}
 use Rattle.kinds.specs.declared.replies.Refusal.the-variants.{ShortArea}
 use Rattle.kinds.specs.declared.replies.Reply.the-variants.{Counted, Refused}
-use Rattle.rules.specs.Codes.{writtenOn}
 use Rattle.rules.specs.Reports.{ItemList, itemised}
 use Rattle.rings.specs.Listings.{mostBytes, storedItems, itemsIn, withByte, withBytes, withItem}
 use Rattle.rings.specs.Listings.{withItems, reportReply, reportWritten}
@@ -98,9 +98,9 @@ module _ (l : Listing) (area : List ℕ) (h : l .count ≤ length (l .bytes)) wh
   pub area-filled : (i : ℕ) (r : List ℕ) → l .count ≤ length area → i ≡ l .count
       → r ≡ take i (l .bytes) ++ drop i area
       → (Counted (l .items) ≡ reportReply (itemsIn l) (length area)) × (r ≡ reportWritten (itemsIn l) area)
-  unfolding reportReply reportWritten writtenOn
+  unfolding reportReply reportWritten
   area-filled i r k e f =
       let t = le-ltb (length area) (length (itemsIn l .bytes)) (omega (arith, long)) in (
         on-false _ _ _ _ t refl,
-        on-false _ _ _ _ t (f ∙ ap₂ (λ (m n : ℕ). take m (l .bytes) ++ drop n area) e (e ∙ sym long)),
+        on-false _ _ _ _ t (f ∙ written-all (l .bytes) area i (l .count) e h),
       )

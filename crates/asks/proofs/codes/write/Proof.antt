@@ -5,7 +5,7 @@ use mathlib.Core.List.{List, _++_}
 use lib.ListN.{length, getD, take, drop, set, length-set}
 use Rattle.lists.specs.Filling.{copy-next}
 use Rattle.kinds.specs.Limits.{longestList}
-use Rattle.asks.proofs.Coded.{written-all}
+use Rattle.laws.specs.Written.{written-all}
 use borrow.Author.Needs.{needs}
 use native.Mathlib.Omega.{arith}
 use Rattle.asks.proofs.codes.write.Statement.{statement}

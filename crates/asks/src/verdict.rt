@@ -15,6 +15,7 @@ use kinds::Slot;
 use kinds::TaskNumber;
 use kinds::Verdict;
 use names::list::asks_shared;
+use names::list::asks_system;
 use names::list::names_good;
 use queue::Queue;
 ghost use mathlib.Core.Path.{_≡_};
@@ -107,13 +108,16 @@ fn deq_short(ret: DeqRet, l: NameList, room: usize) -> bool
     deq_codes_due(ret) & (room < n)
 }
 
-// ENQ: 101, 104, 201, 105.
+// ENQ: 101, 110, 104, 201, 105.
 pub fn enq_verdict(q: Queue, caller: TaskNumber, ret: Ret, l: NameList, room: usize) -> Verdict
     requires { ⌜ q .count ≤ mostEntries ⌝ }
     ensures { λ r. ⌜ r ≡ enqVerdict (entriesIn q) caller ret (namesIn l) room ⌝ }
 {
     if !enq_good(ret, l) {
         return Verdict::Refuse(Refusal::OutOfRange);
+    }
+    if asks_system(l) {
+        return Verdict::Refuse(Refusal::SystemName);
     }
     if enq_short(ret, l, room) {
         return Verdict::Refuse(Refusal::ShortArea);

@@ -71,7 +71,7 @@ module _ (t : Tables) (a : Asked) (r : Answer) (codes : List ℕ) (h : soundb t 
   abbrev outcome : Outcome Step
   outcome = serveOf (stepOf t) a .outcome
 
-  as-ruled : saidWith r codes ≡ servedBy (serveOf (stepOf t) a)
+  pub as-ruled : saidWith r codes ≡ servedBy (serveOf (stepOf t) a)
   as-ruled = e ∙ (sound-serves t a h ∙ ap servedBy (sym (sound-served (stepOf t) a (sound-step t h))))
 
   leaves : stepOf (r .tables) ≡ outcome .tables

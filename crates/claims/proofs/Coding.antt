@@ -1,4 +1,4 @@
--- What going on says of ENQ and DEQ.
+-- What going on says of DEQ, and of the room for codes.
 use mathlib.Core.Path.{_≡_}
 use mathlib.Core.Bool.{Bool, true, false, false≢true}
 use mathlib.Core.List.{List}
@@ -9,27 +9,17 @@ use borrow.Author.Tests.{ltb-false}
 use Rattle.kinds.specs.declared.numbers.TaskNumber.{TaskNumber}
 use Rattle.kinds.specs.declared.names.NameList.{NameList}
 use Rattle.kinds.specs.declared.requests.DeqRet.{DeqRet}
-use Rattle.kinds.specs.declared.requests.Ret.{Ret}
 use Rattle.kinds.specs.declared.replies.Verdict.the-variants.{Go}
 use Rattle.names.specs.Named.{namesIn}
 use Rattle.rules.specs.Names.{Names, namesGood}
 use Rattle.rules.specs.Control.{Entry}
 use Rattle.rules.specs.Codes.{tooShort}
 use Rattle.rules.specs.Deq.{deqCodesDue, deqTests, deqVerdict}
-use Rattle.rules.specs.Enq.{enqCodesDue, enqGood, tooFewFree, enqTests, enqVerdict}
 use Rattle.laws.specs.Decided.{none-hold, good-of}
-use Rattle.laws.specs.InRange.{enq-names}
 use Rattle.flags.proofs.Flagged.{asks-length}
 use Rattle.claims.specs.Claiming.{CodesFit}
 
--- the names are good, codes that are due have room, and so have the entries
-pub enq-go : (q : List Entry) (c : TaskNumber) (ret : Ret) (l : Names) (room : ℕ) → enqVerdict q c ret l room ≡ Go
-    → (namesGood l ≡ true) × (CodesFit (enqCodesDue ret) room l × (tooFewFree ret q (c .0) l ≡ false))
-unfolding enqVerdict
-enq-go q c ret l room h =
-    let g = none-hold (enqTests q c ret l room) h in
-    (enq-names ret l (good-of (enqGood ret l) (g .0)), (g .1 .0, g .1 .1 .1 .0))
-
+-- the names are good, and codes that are due have room
 pub deq-go : (q : List Entry) (c : TaskNumber) (ret : DeqRet) (l : Names) (room : ℕ) → deqVerdict q c ret l room ≡ Go
     → (namesGood l ≡ true) × CodesFit (deqCodesDue ret) room l
 unfolding deqVerdict

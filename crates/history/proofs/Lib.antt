@@ -26,3 +26,4 @@ pub mod Examples
 pub mod Impostors
 pub mod Demand
 pub mod NobodyStuck
+pub mod NoSystemName

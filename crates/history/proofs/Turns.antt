@@ -9,6 +9,7 @@ use Rattle.kinds.specs.declared.requests.Request.{Request}
 use Rattle.kinds.specs.declared.replies.Refusal.{Refusal}
 use Rattle.kinds.specs.declared.replies.Refusal.the-variants.{Unsound, OutOfRange, NotLive, Waits, ShortArea}
 use Rattle.kinds.specs.declared.replies.Refusal.the-variants.{NoEntryFree, NoTaskFree, NoAreaFree, StepOver, WaitBitOn}
+use Rattle.kinds.specs.declared.replies.Refusal.the-variants.{SystemName}
 use Rattle.kinds.specs.declared.replies.Fault.{Fault}
 use Rattle.kinds.specs.declared.replies.Gate.{Gate}
 use Rattle.kinds.specs.declared.replies.Gate.the-variants.{Open, Shut}
@@ -56,6 +57,7 @@ module _ (s : Step) (r : Reading) (e : Seen s r) (q : Request) (l : Names) where
   refused-follows NoAreaFree = same-seen s r e
   refused-follows StepOver = same-seen s r e
   refused-follows WaitBitOn = same-seen s r e
+  refused-follows SystemName = same-seen s r e
 
   -- a shut gate refuses
   pub through-follows : (g : Gate) (o : Outcome Step) → (g ≡ Open → Follows r q l o) → Follows r q l (through g s o)

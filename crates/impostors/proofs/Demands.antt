@@ -10,10 +10,10 @@ use native.Mathlib.Omega.{arith}
 use lib.ListN.{length}
 use Rattle.kinds.specs.Replies.{valueOf}
 use Rattle.kinds.specs.Replies.Besides.{TheAddress, TheNumber}
-use Rattle.kinds.specs.declared.replies.Refusal.the-variants.{OutOfRange, NotLive}
+use Rattle.kinds.specs.declared.replies.Refusal.the-variants.{OutOfRange, NotLive, ShortArea, SystemName}
 use Rattle.kinds.specs.declared.replies.Fault.the-variants.{DeqWithoutEntry}
 use Rattle.kinds.specs.declared.replies.Verdict.the-variants.{Refuse}
-use Rattle.kinds.specs.declared.requests.Ret.the-variants.{None as Ret-None}
+use Rattle.kinds.specs.declared.requests.Ret.the-variants.{None as Ret-None, Test as Ret-Test}
 use Rattle.kinds.specs.declared.requests.DeqRet.the-variants.{None}
 use Rattle.rules.specs.Opened.{rules-open}
 use Rattle.rules.specs.Tests.{firstOf}
@@ -24,6 +24,7 @@ use Rattle.rules.specs.Getmain.{soundRequest, wanted}
 use Rattle.rules.specs.Sound.{soundStep}
 use Rattle.rules.specs.Serve.{Asked, testsOf}
 use Rattle.rules.specs.Table.{exc, clear, end, enq, deq, getmain, getmainIf, dispatch}
+use Rattle.rules.specs.SystemCases.{sysdsn}
 use Rattle.rules.specs.DemandOne.{Demand1, abendedFrom}
 use Rattle.rules.specs.DemandTwo.{Room, Demand2}
 use Rattle.laws.specs.Decided.{decided, decides}
@@ -57,6 +58,16 @@ one-101-before-102 d =
     let f : firstOf (testsOf start (clear 2 64)) ≡ Refuse OutOfRange = decided _ (refusal OutOfRange)
     (d .when (refusal OutOfRange) refl) in
     let g : Refuse NotLive ≡ Refuse OutOfRange = f in
+    let z : _≡_ {A = ℕ} 0 1 = cc in
+    omega arith
+
+-- 104 before 110: TEST for a system name, with no codes area
+pub one-104-before-110 : One (enq 1 Ret-Test 0 (exc sysdsn ∷ [])) (untouched [] (refused ShortArea start)) → ⊥
+unfolding rules-open
+one-104-before-110 d =
+    let f : firstOf (testsOf start (enq 1 Ret-Test 0 (exc sysdsn ∷ []))) ≡ Refuse ShortArea =
+    decided _ (refusal ShortArea) (d .when (refusal ShortArea) refl) in
+    let g : Refuse SystemName ≡ Refuse ShortArea = f in
     let z : _≡_ {A = ℕ} 0 1 = cc in
     omega arith
 

@@ -18,15 +18,16 @@ use Rattle.kinds.specs.declared.requests.Ret.the-variants.{None, Test, Use, Hav
 use Rattle.kinds.specs.declared.requests.DeqRet.{DeqRet}
 use Rattle.kinds.specs.declared.requests.DeqRet.the-variants.{None as DeqNone, Have as DeqHave}
 use Rattle.kinds.specs.declared.replies.Verdict.{Verdict}
-use Rattle.kinds.specs.declared.replies.Refusal.the-variants.{OutOfRange, ShortArea, NoEntryFree}
+use Rattle.kinds.specs.declared.replies.Refusal.the-variants.{ShortArea, NoEntryFree}
 use Rattle.kinds.specs.declared.replies.Fault.the-variants.{DuplicateEnq, DeqWithoutEntry}
-use Rattle.rules.specs.Names.{Resource, Ask, Names, namesGood, namesOf as resources}
+use Rattle.rules.specs.Names.{Resource, Ask, namesGood, asksSystem, namesOf as resources}
 use Rattle.rules.specs.Control.{Entry, hasEntry, available, holding}
-use Rattle.rules.specs.Tests.{Check, refuse, fail, firstOf}
-use Rattle.rules.specs.Codes.{allZero, writtenOn, tooShort}
+use Rattle.rules.specs.Tests.{refuse, fail, firstOf}
+use Rattle.rules.specs.Codes.{allZero, writtenOn}
 use Rattle.rules.specs.Table.{named, shr, exc, counted}
 use Rattle.rules.specs.Enq.{entryFor, queuesAll, enqGood, duplicated, tooFewFree, enqCode, enqCodes, enqCodesDue}
 use Rattle.rules.specs.Deq.{deqCodes, deqCodesDue, unentered}
+use Rattle.rules.specs.SystemCases.{beginning, sysdsn, sysdsnWith}
 use Rattle.history.specs.Samples.{x, y}
 use Rattle.names.specs.Named.{namesIn}
 use Rattle.queue.specs.Queues.{entriesIn, storedEntries}
@@ -47,6 +48,8 @@ use Rattle.impostors.specs.Opened.{tables-open}
 use Rattle.impostors.specs.Samples.{task, namesOf}
 use Rattle.impostors.specs.Wrong.{RuledOut, wrong-at, RuledOutWith, wrong-with}
 use Rattle.impostors.specs.Parts.{ownerAndWaiter, lent, verdictNumber}
+use Rattle.impostors.specs.Verdicts.{Judge, bad, system, short, keepingOff, firstOnly, twoBytes, inMinorToo}
+use Rattle.impostors.specs.Verdicts.{byName, unlessTest, after104, before101, deqKeepingOff}
 
 -- the code behind n others
 abbrev code : ℕ → Codes → ℕ
@@ -188,26 +191,20 @@ Asks K = Queue × (TaskNumber × (K × (NameList × (ℕ × Unit {0}))))
 abbrev fits-Asks : {K : Type 0} → (K → Bool) → Asks K → Bool
 fits-Asks ret = fits-Queue ⊗ fits-TaskNumber ⊗ ret ⊗ fits-NameList ⊗ fits-usize ⊗ fits-end
 
-abbrev verdictBy : {K : Type 0} → (List Entry → ℕ → K → Names → ℕ → Verdict) → Asks K → Verdict
+abbrev verdictBy : {K : Type 0} → Judge K → Asks K → Verdict
 verdictBy f a = f (entriesIn (a .0)) (a .1 .0 .0) (a .1 .1 .0) (namesIn (a .1 .1 .1 .0)) (a .1 .1 .1 .1 .0)
-
--- the lines of ENQ's and DEQ's tables, where the codes area has room for so many bytes
-abbrev bad : Bool → Check
-bad good = refuse OutOfRange (not good)
-
-abbrev short : Bool → ℕ → Names → Check
-short due room l = refuse ShortArea (due && tooShort room l)
 
 -- n entries of task 1
 abbrev long : ℕ → List Entry
 long n = counted (λ i. entryFor 1 (exc (named 88 (i ∷ [])))) 1 n
 
 -- 104 goes before 101
-abbrev shortFirst : List Entry → ℕ → Ret → Names → ℕ → Verdict
+abbrev shortFirst : Judge Ret
 shortFirst q c ret l room =
     firstOf
     (short (enqCodesDue ret) room l
     ∷ bad (enqGood ret l)
+    ∷ system (asksSystem l)
     ∷ fail DuplicateEnq (duplicated ret q c l)
     ∷ refuse NoEntryFree (tooFewFree ret q c l)
     ∷ [])
@@ -221,10 +218,11 @@ enq-verdict-104-before-101 =
     (λ v. eqb (verdictNumber v) 104) refl refl
 
 -- a duplicate is an error under every RET kind
-abbrev everyDuplicate : List Entry → ℕ → Ret → Names → ℕ → Verdict
+abbrev everyDuplicate : Judge Ret
 everyDuplicate q c ret l room =
     firstOf
     (bad (enqGood ret l)
+    ∷ system (asksSystem l)
     ∷ short (enqCodesDue ret) room l
     ∷ fail DuplicateEnq (duplicated None q c l)
     ∷ refuse NoEntryFree (tooFewFree ret q c l)
@@ -239,10 +237,11 @@ enq-verdict-201-under-use =
     (λ v. eqb (verdictNumber v) 201) refl refl
 
 -- one free place is enough for any list
-abbrev oneFree : List Entry → ℕ → Ret → Names → ℕ → Verdict
+abbrev oneFree : Judge Ret
 oneFree q c ret l room =
     firstOf
     (bad (enqGood ret l)
+    ∷ system (asksSystem l)
     ∷ short (enqCodesDue ret) room l
     ∷ fail DuplicateEnq (duplicated ret q c l)
     ∷ refuse NoEntryFree (queuesAll ret && allZero (enqCodes ret q c l) && leb mostEntries (length q))
@@ -257,10 +256,11 @@ enq-verdict-one-free-is-enough =
     (λ v. eqb (verdictNumber v) 0) refl refl
 
 -- 105 goes before 201
-abbrev fullFirst : List Entry → ℕ → Ret → Names → ℕ → Verdict
+abbrev fullFirst : Judge Ret
 fullFirst q c ret l room =
     firstOf
     (bad (enqGood ret l)
+    ∷ system (asksSystem l)
     ∷ short (enqCodesDue ret) room l
     ∷ refuse NoEntryFree (tooFewFree ret q c l)
     ∷ fail DuplicateEnq (duplicated ret q c l)
@@ -274,8 +274,56 @@ enq-verdict-105-before-201 =
     wrong-at tt (storedEntries (long 128), (task 1, (None, (namesOf (exc x ∷ []), (0, tt))))) refl (omega arith)
     (λ v. eqb (verdictNumber v) 105) refl refl
 
+-- 110, wrong in each of the ways of Verdicts: on an empty queue task 1 asks for these names, with so many bytes of area
+abbrev asking : Ret → List Ask → ℕ → Asks Ret
+asking ret l room = (storedEntries [], (task 1, (ret, (namesOf l, (room, tt)))))
+
+-- TEST for a system name, with no codes area
+pub enq-verdict-110-after-104 : RuledOut (λ k. fits-Asks fits-Ret) enq-verdict.Pre enq-verdict.Post
+    (λ k a. verdictBy after104 a)
+unfolding tables-open
+enq-verdict-110-after-104 =
+    wrong-at tt (asking Test (shr sysdsn ∷ []) 0) refl (omega arith) (λ v. eqb (verdictNumber v) 104) refl refl
+
+-- NONE for a system name without a minor part
+pub enq-verdict-110-before-101 : RuledOut (λ k. fits-Asks fits-Ret) enq-verdict.Pre enq-verdict.Post
+    (λ k a. verdictBy before101 a)
+unfolding tables-open
+enq-verdict-110-before-101 =
+    wrong-at tt (asking None (exc (sysdsnWith []) ∷ []) 0) refl (omega arith) (λ v. eqb (verdictNumber v) 110) refl refl
+
+-- x, and then a system name
+pub enq-verdict-first-name-only : RuledOut (λ k. fits-Asks fits-Ret) enq-verdict.Pre enq-verdict.Post
+    (λ k a. verdictBy (keepingOff firstOnly) a)
+unfolding tables-open
+enq-verdict-first-name-only =
+    wrong-at tt (asking None (exc x ∷ exc sysdsn ∷ []) 0) refl (omega arith) (λ v. eqb (verdictNumber v) 0) refl refl
+
+-- E2 E8 E3
+pub enq-verdict-two-bytes-compared : RuledOut (λ k. fits-Asks fits-Ret) enq-verdict.Pre enq-verdict.Post
+    (λ k a. verdictBy (keepingOff (byName twoBytes)) a)
+unfolding tables-open
+enq-verdict-two-bytes-compared =
+    wrong-at tt (asking None (exc (beginning (0xE2 ∷ 0xE8 ∷ 0xE3 ∷ [])) ∷ []) 0) refl (omega arith)
+    (λ v. eqb (verdictNumber v) 110) refl refl
+
+-- x's major part, and E2 E8 E2 as the minor part
+pub enq-verdict-in-the-minor-part : RuledOut (λ k. fits-Asks fits-Ret) enq-verdict.Pre enq-verdict.Post
+    (λ k a. verdictBy (keepingOff (byName inMinorToo)) a)
+unfolding tables-open
+enq-verdict-in-the-minor-part =
+    wrong-at tt (asking None (exc (named 88 (0xE2 ∷ 0xE8 ∷ 0xE2 ∷ [])) ∷ []) 0) refl (omega arith)
+    (λ v. eqb (verdictNumber v) 110) refl refl
+
+-- TEST for a system name
+pub enq-verdict-test-passes : RuledOut (λ k. fits-Asks fits-Ret) enq-verdict.Pre enq-verdict.Post
+    (λ k a. verdictBy (keepingOff unlessTest) a)
+unfolding tables-open
+enq-verdict-test-passes =
+    wrong-at tt (asking Test (shr sysdsn ∷ []) 1) refl (omega arith) (λ v. eqb (verdictNumber v) 0) refl refl
+
 -- the codes area has to be longer than the list
-abbrev longer : List Entry → ℕ → DeqRet → Names → ℕ → Verdict
+abbrev longer : Judge DeqRet
 longer q c ret l room =
     firstOf
     (bad (namesGood l)
@@ -292,7 +340,7 @@ deq-verdict-104-at-equal-length =
     (λ v. eqb (verdictNumber v) 104) refl refl
 
 -- an entry for one of the names is enough
-abbrev oneEntered : List Entry → ℕ → DeqRet → Names → ℕ → Verdict
+abbrev oneEntered : Judge DeqRet
 oneEntered q c ret l room =
     firstOf
     (bad (namesGood l)
@@ -310,7 +358,7 @@ deq-verdict-one-entry-is-enough =
     (λ v. eqb (verdictNumber v) 0) refl refl
 
 -- a name without entry is an error under HAVE too
-abbrev everyMissing : List Entry → ℕ → DeqRet → Names → ℕ → Verdict
+abbrev everyMissing : Judge DeqRet
 everyMissing q c ret l room =
     firstOf
     (bad (namesGood l)
@@ -325,3 +373,12 @@ unfolding tables-open
 deq-verdict-202-under-have =
     wrong-at tt (storedEntries ownerAndWaiter, (task 1, (DeqHave, (namesOf (exc y ∷ []), (1, tt))))) refl (omega arith)
     (λ v. eqb (verdictNumber v) 202) refl refl
+
+-- a system name is refused: task 1 gives one back by HAVE
+pub deq-verdict-110 : RuledOut (λ k. fits-Asks fits-DeqRet) deq-verdict.Pre deq-verdict.Post
+    (λ k a. verdictBy deqKeepingOff a)
+unfolding tables-open
+deq-verdict-110 =
+    wrong-at tt (storedEntries ownerAndWaiter, (task 1, (DeqHave, (namesOf (exc sysdsn ∷ []), (1, tt))))) refl
+    (omega arith)
+    (λ v. eqb (verdictNumber v) 110) refl refl

@@ -361,7 +361,7 @@ Reply-besides-four = wrong-at tt (Four, tt) refl tt (λ n. eqb n 4) refl refl
 
 -- a refusal has its number besides
 pub Reply-besides-the-refusal : RuledOut (λ k. fits-Reply ⊗ fits-end) Reply-besides.Pre Reply-besides.Post
-    (λ k a. cond (between 100 109 (numberOf (a .0))) (numberOf (a .0)) (besidesOf (a .0)))
+    (λ k a. cond (between 100 199 (numberOf (a .0))) (numberOf (a .0)) (besidesOf (a .0)))
 unfolding tables-open
 Reply-besides-the-refusal = wrong-at tt (Refused NotLive, tt) refl tt (λ n. eqb n 102) refl refl
 

@@ -1,32 +1,37 @@
 -- Wrong answers that the contracts of `names` rule out.
 use Prim.Native.Nat.{ℕ, _+_, _-_}
 use mathlib.Core.Path.{refl}
-use mathlib.Core.Bool.{Bool, true, not, _&&_}
+use mathlib.Core.Bool.{Bool, true, false, not, _&&_, _||_}
 use mathlib.Core.List.{List, [], _∷_, map}
 use native.Mathlib.Omega.{arith}
 use lib.Dec.{eqb, leb}
 use lib.ListN.{length, getD, take, replicate}
 use Rattle.lists.specs.Lists.{sameBytes, every, distinct, alike}
 use Rattle.lists.specs.Tables.{padded}
-use Rattle.kinds.specs.Limits.{longestMinor, longestList}
+use Rattle.kinds.specs.Limits.{longestMinor, longestList, systemBytes}
 use Rattle.kinds.specs.Ranges.{between, minorGood, countGood}
 use Rattle.kinds.specs.declared.names.Name.{Name}
 use Rattle.kinds.specs.declared.names.NameList.{NameList}
-use Rattle.kinds.specs.declared.requests.Ret.the-variants.{Use, Chng}
-use Rattle.rules.specs.Names.{Resource, Ask, Names, sameName, legal, namesOf as namesAmong, namesGood}
+use Rattle.kinds.specs.declared.requests.Ret.the-variants.{None, Use, Chng}
+use Rattle.rules.specs.Names.{Resource, Ask, Names, sameName, legal, isSystem, namesOf as namesAmong}
+use Rattle.rules.specs.Names.{namesGood, asksSystem}
 use Rattle.rules.specs.Enq.{asksShared}
 use Rattle.rules.specs.Table.{named, shr, exc}
+use Rattle.rules.specs.SystemCases.{beginning, sysdsn}
 use Rattle.history.specs.Samples.{x, y}
-use Rattle.names.specs.Named.{kept, askOf, namesIn}
+use Rattle.names.specs.Named.{resourceOf, kept, askOf, namesIn}
 use Rattle.names.proofs.same_name.Reads as same-name
 use Rattle.names.proofs.is_legal.Reads as is-legal
+use Rattle.names.proofs.is_system.Reads as is-system
 use Rattle.names.proofs.clean.Reads as clean
 use Rattle.names.proofs.list.names_good.Reads as names-good
 use Rattle.names.proofs.list.asks_shared.Reads as asks-shared
+use Rattle.names.proofs.list.asks_system.Reads as asks-system
 use Rattle.impostors.specs.Fitting.{_⊗_, fits-Name, fits-NameList, fits-Ret, fits-end}
 use Rattle.impostors.specs.Opened.{tables-open}
 use Rattle.impostors.specs.Samples.{namesOf}
 use Rattle.impostors.specs.Wrong.{RuledOut, wrong-at}
+use Rattle.impostors.specs.Verdicts.{firstOnly, twoBytes, inMinorToo}
 
 -- a name with x's major part and the bytes 1 9 in front of its array, of which so many are stated to be the minor part
 abbrev stated : ℕ → Name
@@ -84,6 +89,37 @@ pub is-legal-length-above-44-lost : RuledOut (λ k. fits-Name ⊗ fits-end) is-l
     (λ k a. minorGood (length (inArray (a .0))))
 unfolding tables-open
 is-legal-length-above-44-lost = wrong-at tt (stated 45, tt) refl tt (λ b. b) refl refl
+
+-- only two bytes are compared: E2 E8 E3
+pub is-system-two-bytes-compared : RuledOut (λ k. fits-Name ⊗ fits-end) is-system.Pre is-system.Post
+    (λ k a. twoBytes (resourceOf (a .0)))
+unfolding tables-open
+is-system-two-bytes-compared =
+    wrong-at tt (kept (beginning (0xE2 ∷ 0xE8 ∷ 0xE3 ∷ [])), tt) refl tt (λ b. b) refl refl
+
+-- the bytes are looked for in the minor part too
+pub is-system-in-the-minor-part : RuledOut (λ k. fits-Name ⊗ fits-end) is-system.Pre is-system.Post
+    (λ k a. inMinorToo (resourceOf (a .0)))
+unfolding tables-open
+is-system-in-the-minor-part =
+    wrong-at tt (kept (named 88 (0xE2 ∷ 0xE8 ∷ 0xE2 ∷ [])), tt) refl tt (λ b. b) refl refl
+
+-- they are looked for anywhere in the major part: at bytes 2 to 4
+abbrev somewhere : List ℕ → Bool
+somewhere [] = false
+somewhere (b ∷ l) = sameBytes (take (length systemBytes) (b ∷ l)) systemBytes || somewhere l
+
+pub is-system-further-on : RuledOut (λ k. fits-Name ⊗ fits-end) is-system.Pre is-system.Post
+    (λ k a. somewhere (a .0 .major))
+unfolding tables-open
+is-system-further-on =
+    wrong-at tt (kept (beginning (0x40 ∷ 0xE2 ∷ 0xE8 ∷ 0xE2 ∷ [])), tt) refl tt (λ b. b) refl refl
+
+-- the letters are taken in ASCII: SYSDSN, as the book's machine writes it, is free
+pub is-system-in-ascii : RuledOut (λ k. fits-Name ⊗ fits-end) is-system.Pre is-system.Post
+    (λ k a. sameBytes (take 3 (a .0 .major)) (0x53 ∷ 0x59 ∷ 0x53 ∷ []))
+unfolding tables-open
+is-system-in-ascii = wrong-at tt (kept sysdsn, tt) refl tt not refl refl
 
 -- the name comes back as it is, with what stands behind the minor part: it is the byte 1, and a 9 stands behind it
 pub clean-bytes-behind-stay : RuledOut (λ k. fits-Name ⊗ fits-end) clean.Pre clean.Post (λ k a. a .0)
@@ -173,3 +209,24 @@ pub asks-shared-past-the-count : RuledOut (λ k. fits-Ret ⊗ fits-NameList ⊗ 
     (λ k a. asksShared (a .0) (allPlaces (a .1 .0)))
 unfolding tables-open
 asks-shared-past-the-count = wrong-at tt (Chng, (namesOf (exc x ∷ []), tt)) refl (omega arith) (λ b. b) refl refl
+
+-- only the first name is looked at: x, and then a system name
+pub asks-system-first-name-only : RuledOut (λ k. fits-NameList ⊗ fits-end) asks-system.Pre asks-system.Post
+    (λ k a. firstOnly None (namesIn (a .0)))
+unfolding tables-open
+asks-system-first-name-only = wrong-at tt (namesOf (exc x ∷ exc sysdsn ∷ []), tt) refl (omega arith) not refl refl
+
+-- all names have to be the system's: of two one is
+pub asks-system-all-of-them : RuledOut (λ k. fits-NameList ⊗ fits-end) asks-system.Pre asks-system.Post
+    (λ k a. every isSystem (namesAmong (namesIn (a .0))))
+unfolding tables-open
+asks-system-all-of-them = wrong-at tt (namesOf (exc sysdsn ∷ exc x ∷ []), tt) refl (omega arith) not refl refl
+
+-- the places past the count are looked at: a system name was left behind x
+abbrev leftBehind : NameList
+leftBehind = record { count = 1; names = namesOf (exc x ∷ exc sysdsn ∷ []) .names }
+
+pub asks-system-past-the-count : RuledOut (λ k. fits-NameList ⊗ fits-end) asks-system.Pre asks-system.Post
+    (λ k a. asksSystem (allPlaces (a .0)))
+unfolding tables-open
+asks-system-past-the-count = wrong-at tt (leftBehind, tt) refl (omega arith) (λ b. b) refl refl

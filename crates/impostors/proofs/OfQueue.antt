@@ -11,9 +11,10 @@ use Rattle.lists.specs.Lists.{every, some, distinct, alike, sameBytes}
 use Rattle.lists.specs.Tables.{padded}
 use Rattle.kinds.specs.Limits.{highestTask, mostEntries, longestMinor}
 use Rattle.kinds.specs.declared.names.Slot.{Slot}
-use Rattle.rules.specs.Names.{sameName}
+use Rattle.rules.specs.Names.{sameName, legal}
 use Rattle.rules.specs.Control.{Entry, ofTask, holding, lacks}
 use Rattle.rules.specs.Table.{named, shr, exc}
+use Rattle.rules.specs.SystemCases.{sysdsn}
 use Rattle.rules.specs.Enq.{entryFor}
 use Rattle.rules.specs.SoundQueue.{sameRequest, entriesOnce, entryNamesGood}
 use Rattle.history.specs.Samples.{x, y}
@@ -142,6 +143,13 @@ entry-names-good-44-bytes =
     wrong-at tt (storedEntries (entryFor 1 (exc (named 88 (replicate longestMinor 1))) ∷ []), tt) refl
     (omega arith) not refl
     refl
+
+-- an entry may be for a system name
+pub entry-names-good-system-name : RuledOut (λ k. fits-Queue ⊗ fits-end) entry-names-good.Pre entry-names-good.Post
+    (λ k a. every (λ (e : Entry). legal (e .name)) (entriesIn (a .0)))
+unfolding tables-open
+entry-names-good-system-name =
+    wrong-at tt (storedEntries (entryFor 1 (exc sysdsn) ∷ []), tt) refl (omega arith) (λ b. b) refl refl
 
 -- a task is marked that was not asked for
 pub lacking-tasks-not-asked-for : RuledOut (λ k. fits-Queue ⊗ fits-Marks ⊗ fits-end) lacking.Pre lacking.Post

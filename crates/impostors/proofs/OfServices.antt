@@ -37,7 +37,7 @@ use Rattle.kinds.specs.declared.replies.Gate.{Gate}
 use Rattle.kinds.specs.declared.replies.Gate.the-variants.{Open, Shut}
 use Rattle.names.specs.Named.{namesIn}
 use Rattle.events.specs.Blocks.{ecbsIn}
-use Rattle.rules.specs.Names.{Names, namesOf as resources}
+use Rattle.rules.specs.Names.{Ask, Names, namesOf as resources}
 use Rattle.rules.specs.Control.{Entry}
 use Rattle.rules.specs.Rings.{waitsFor, leadsBy, tasksQueued, stuck as stuckOf}
 use Rattle.rules.specs.Reports.{StuckTask, firstStuckAt, stuckItem, standing, queuesOf, queueItem, ItemList, itemised}
@@ -46,7 +46,8 @@ use Rattle.rules.specs.Reports.{queuesReport}
 use Rattle.rules.specs.Family.{place, withPlace, conditionOf, below}
 use Rattle.rules.specs.Steps.{Step, Outcome, Served, done, doneWith, refused, keptBy, overStep, withTasks, withQueue}
 use Rattle.rules.specs.Steps.{withEcbs, withAreas, untouched}
-use Rattle.rules.specs.Table.{exc}
+use Rattle.rules.specs.Table.{named, shr, exc}
+use Rattle.rules.specs.SystemCases.{beginning, sysdsn, sysdsnWith}
 use Rattle.rules.specs.Alike.{kindOf}
 use Rattle.rules.specs.Tests.{refuse, fail, firstOf}
 use Rattle.rules.specs.Admission.{gateOf, openGate, through, settled, codesThrough}
@@ -58,7 +59,7 @@ use Rattle.rules.specs.Attach.{attachBody, attachOf}
 use Rattle.rules.specs.Detach.{detachGood, detachDone, detachOf}
 use Rattle.rules.specs.End.{endGood, endDone, endOf}
 use Rattle.rules.specs.Abend.{abendVerdict}
-use Rattle.rules.specs.Enq.{enqCodes, enqVerdict, enqOf}
+use Rattle.rules.specs.Enq.{entryFor, enqCodes, enqVerdict, enqOf}
 use Rattle.rules.specs.Deq.{released, deqVerdict, deqOf}
 use Rattle.rules.specs.Wait.{waitOf}
 use Rattle.rules.specs.Post.{postVerdict, postOf}
@@ -70,6 +71,7 @@ use Rattle.rules.specs.Dispatch.{dispatchOf}
 use Rattle.rules.specs.Sound.{soundStep}
 use Rattle.rules.specs.Fresh.{freshStep}
 use Rattle.rules.specs.Serve.{serviceOf}
+use Rattle.laws.specs.SystemNames.{forSystem}
 use Rattle.history.specs.Samples.{start, x}
 use Rattle.services.specs.Kept.{stepOf, tablesOf, withClaims, soundb, answered, answeredWith, saidWith}
 use Rattle.services.specs.declared.Tables.{Tables}
@@ -102,6 +104,8 @@ use Rattle.impostors.specs.Samples.{ringOfTwo, behindAnother, sharedAhea
 use Rattle.impostors.specs.Parts.{lent, address, lastBest, incomplete}
 use Rattle.impostors.specs.Impostors.{byService}
 use Rattle.impostors.specs.Answers.{answerOf, answering, but, butServed, retelling, coding, reporting}
+use Rattle.impostors.specs.Verdicts.{Judge, keepingOff, never110, firstOnly, twoBytes, inMinorToo, byName}
+use Rattle.impostors.specs.Verdicts.{unlessTest, after104, before101, deqKeepingOff, enqJudged, deqJudged}
 
 -- the tables after a run from a fresh step
 abbrev tables : List Asking → Tables
@@ -168,6 +172,13 @@ sound-over-with-tasks =
     wrong-at tt
     (tablesOf (record { over = true; code = 0; tasks = start .tasks; queue = []; ecbs = start .ecbs; areas = [] }), tt)
     refl tt (λ b. b) refl refl
+
+-- an entry for a system name is let pass, where all else is sound
+pub sound-with-a-system-name : RuledOut (λ k. fits-Tables ⊗ fits-end) sound.Pre sound.Post
+    (λ k a. soundb (a .0) || some forSystem (stepOf (a .0) .queue))
+unfolding tables-open
+sound-with-a-system-name =
+    wrong-at tt (tablesOf (withQueue start (entryFor 1 (exc sysdsn) ∷ [])), tt) refl tt (λ b. b) refl refl
 
 -- FRESH START
 
@@ -331,7 +342,74 @@ enq-writes-codes-under-none =
     wrong-with ([], tt) (tablesOf start, (task 1, (None, (namesOf (exc x ∷ []), (lent (238 ∷ []), tt))))) refl tt
     (λ o. eqb (getD (o .codes) 0 238) 0) refl refl
 
+-- system names, document 02 §2: ENQ by a verdict that is wrong in one of the ways of Verdicts. On a fresh step task 1
+-- asks for these names, with these bytes as codes area.
+abbrev enqBy : Judge Ret → Coded Ret → Answer × Coded Ret
+enqBy f a = coding a (λ s area. enqJudged f s (a .1 .0) (a .1 .1 .0) (namesIn (a .1 .1 .1 .0)) area)
+
+abbrev asking : Ret → List Ask → List ℕ → Coded Ret
+asking ret l area = (tablesOf start, (task 1, (ret, (namesOf l, (lent area, tt)))))
+
+-- there is no 110: a system name is queued, as document 01 alone would have it
+pub enq-no-110 : RuledOutWith (λ k. fits-Coded fits-Ret) enq.Pre enq.Post (λ k a. enqBy (keepingOff never110) a)
+unfolding tables-open
+enq-no-110 =
+    wrong-with ([], tt) (asking None (exc sysdsn ∷ []) []) refl tt (λ o. eqb (o .outcome .tables .queue .count) 1) refl
+    refl
+
+-- TEST for a system name, with no codes area, is 104
+pub enq-110-after-104 : RuledOutWith (λ k. fits-Coded fits-Ret) enq.Pre enq.Post (λ k a. enqBy after104 a)
+unfolding tables-open
+enq-110-after-104 =
+    wrong-with ([], tt) (asking Test (shr sysdsn ∷ []) []) refl tt (λ o. eqb (o .outcome .number) 104) refl refl
+
+-- NONE for a system name without a minor part is 110
+pub enq-110-before-101 : RuledOutWith (λ k. fits-Coded fits-Ret) enq.Pre enq.Post (λ k a. enqBy before101 a)
+unfolding tables-open
+enq-110-before-101 =
+    wrong-with ([], tt) (asking None (exc (sysdsnWith []) ∷ []) []) refl tt (λ o. eqb (o .outcome .number) 110) refl
+    refl
+
+-- only the first name is looked at: a system name is queued behind x
+pub enq-first-name-only : RuledOutWith (λ k. fits-Coded fits-Ret) enq.Pre enq.Post
+    (λ k a. enqBy (keepingOff firstOnly) a)
+unfolding tables-open
+enq-first-name-only =
+    wrong-with ([], tt) (asking None (exc x ∷ exc sysdsn ∷ []) []) refl tt (λ o. eqb (o .outcome .number) 0) refl refl
+
+-- only two bytes are compared: E2 E8 E3 is refused
+pub enq-two-bytes-compared : RuledOutWith (λ k. fits-Coded fits-Ret) enq.Pre enq.Post
+    (λ k a. enqBy (keepingOff (byName twoBytes)) a)
+unfolding tables-open
+enq-two-bytes-compared =
+    wrong-with ([], tt) (asking None (exc (beginning (0xE2 ∷ 0xE8 ∷ 0xE3 ∷ [])) ∷ []) []) refl tt
+    (λ o. eqb (o .outcome .number) 110) refl refl
+
+-- the bytes are looked for in the minor part too: x's major part with E2 E8 E2 is refused
+pub enq-in-the-minor-part : RuledOutWith (λ k. fits-Coded fits-Ret) enq.Pre enq.Post
+    (λ k a. enqBy (keepingOff (byName inMinorToo)) a)
+unfolding tables-open
+enq-in-the-minor-part =
+    wrong-with ([], tt) (asking None (exc (named 88 (0xE2 ∷ 0xE8 ∷ 0xE2 ∷ [])) ∷ []) []) refl tt
+    (λ o. eqb (o .outcome .number) 110) refl refl
+
+-- TEST lets a system name pass: 0, and the code 0
+pub enq-test-passes : RuledOutWith (λ k. fits-Coded fits-Ret) enq.Pre enq.Post
+    (λ k a. enqBy (keepingOff unlessTest) a)
+unfolding tables-open
+enq-test-passes =
+    wrong-with ([], tt) (asking Test (shr sysdsn ∷ []) (238 ∷ [])) refl tt (λ o. eqb (getD (o .codes) 0 238) 0) refl
+    refl
+
 -- DEQ
+
+-- a system name is refused, although DEQ isn't changed: HAVE of one gives 8
+pub deq-refuses-a-system-name : RuledOutWith (λ k. fits-Coded fits-DeqRet) deq.Pre deq.Post
+    (λ k a. coding a (λ s area. deqJudged deqKeepingOff s (a .1 .0) (a .1 .1 .0) (namesIn (a .1 .1 .1 .0)) area))
+unfolding tables-open
+deq-refuses-a-system-name =
+    wrong-with ([], tt) (tablesOf start, (task 1, (DeqHave, (namesOf (exc sysdsn ∷ []), (lent (238 ∷ []), tt))))) refl
+    tt (λ o. eqb (o .outcome .number) 110) refl refl
 
 -- nobody is granted what was released: 2 waits on
 pub deq-grants-nothing : RuledOutWith (λ k. fits-Coded fits-DeqRet) deq.Pre deq.Post
@@ -525,6 +603,18 @@ serve-writes-no-code =
     wrong-with ([], tt)
     (tablesOf start, (Enq (task 1) Test, (namesOf (exc x ∷ []), (ecbsOf [], (lent (238 ∷ []), tt))))) refl tt
     (λ o. eqb (getD (o .codes) 0 0) 238) refl refl
+
+-- 0 is answered for 110, with nothing done: task 1 asks for a system name
+abbrev zeroFor110 : Step → Request → Names → Ecbs → List ℕ → Served Step
+zeroFor110 s r ns es area =
+    cond (eqb (serviceOf s r ns es area .outcome .number) 110) (untouched area (done s)) (serviceOf s r ns es area)
+
+pub serve-says-0-for-110 : RuledOutWith (λ k. fits-Serves) serve.Pre serve.Post
+    (λ k a. coding a (λ s area. zeroFor110 s (a .1 .0) (namesIn (a .1 .1 .0)) (ecbsIn (a .1 .1 .1 .0)) area))
+unfolding tables-open
+serve-says-0-for-110 =
+    wrong-with ([], tt) (tablesOf start, (Enq (task 1) None, (namesOf (exc sysdsn ∷ []), (ecbsOf [], (lent [], tt)))))
+    refl tt (λ o. eqb (o .outcome .number) 0) refl refl
 
 -- values are told by another kind: the number of ATTACH as an address, the address of GETMAIN as a number
 abbrev retold : Step → Request → Names → Ecbs → List ℕ → Served Step

@@ -4,5 +4,6 @@ pub mod Fitting
 pub mod Samples
 pub mod Parts
 pub mod Answers
+pub mod Verdicts
 pub mod Impostors
 pub mod Slips

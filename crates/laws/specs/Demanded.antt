@@ -65,7 +65,7 @@ sorted s c area ts o (fails what d h g f e) = record {
 sorted s c area ts o (goes f g) =
     record { k = numberIn o; ends = g; is = sym (ap (λ (v : Verdict). numbered v (numberIn o)) f) }
 
-says : (n : No) (k : ℕ) → numbered (saying n) k ≡ numberOfNo n
+pub says : (n : No) (k : ℕ) → numbered (saying n) k ≡ numberOfNo n
 says (refusal why) k = refl
 says (fault what) k = refl
 

@@ -8,13 +8,14 @@ use lib.Dec.{eqb}
 use borrow.Author.Tests.{eqb-false, not-true}
 use Rattle.lists.specs.Lists.{every}
 use Rattle.lists.specs.Bools.{both}
-use Rattle.lists.specs.Pick.{pick}
+use Rattle.lists.specs.Pick.{pick, pick-false}
 use Rattle.kinds.specs.Replies.{refusalNumber}
 use Rattle.kinds.specs.Tasks.{isLive, waits}
 use Rattle.kinds.specs.declared.numbers.TaskNumber.{TaskNumber}
 use Rattle.kinds.specs.declared.requests.Request.{Request}
 use Rattle.kinds.specs.declared.requests.Request.the-variants.{Attach, Detach, End, Abend, Enq, Deq, Wait, Post}
 use Rattle.kinds.specs.declared.requests.Request.the-variants.{Clear, Getmain, Freemain, Dispatch}
+use Rattle.kinds.specs.declared.replies.Refusal.{Refusal}
 use Rattle.kinds.specs.declared.replies.Refusal.the-variants.{OutOfRange}
 use Rattle.kinds.specs.declared.replies.Verdict.{Verdict}
 use Rattle.kinds.specs.declared.replies.Verdict.the-variants.{Refuse}
@@ -52,38 +53,46 @@ unfolding gateOf
 gate-first s c ts =
     gate-by (s .over) (isLive (conditionOf (s .tasks) (c .0))) (waits (conditionOf (s .tasks) (c .0))) ts
 
--- 101
+-- A REFUSAL WHOSE TEST STANDS FIRST
 
--- a test that says another number
-abbrev notRange : Check → Bool
-notRange t = not (eqb (numberOfNo (t .says)) (refusalNumber OutOfRange))
+module _ (why : Refusal) where
+  -- a test that says another number
+  abbrev another : Check → Bool
+  another t = not (eqb (numberOfNo (t .says)) (refusalNumber why))
 
-other : (m : No) → not (eqb (numberOfNo m) (refusalNumber OutOfRange)) ≡ true → saying m ≡ Refuse OutOfRange → ⊥
-other (refusal w) h e =
-    let d : w ≡ OutOfRange = cc in
-    eqb-false (refusalNumber w) (refusalNumber OutOfRange) (not-true _ h) (ap refusalNumber d)
-other (fault w) h e = let z : _≡_ {A = ℕ} 0 1 = cc in omega arith
+  other : (m : No) → not (eqb (numberOfNo m) (refusalNumber why)) ≡ true → saying m ≡ Refuse why → ⊥
+  other (refusal w) h e =
+      let d : w ≡ why = cc in
+      eqb-false (refusalNumber w) (refusalNumber why) (not-true _ h) (ap refusalNumber d)
+  other (fault w) h e = let z : _≡_ {A = ℕ} 0 1 = cc in omega arith
 
-others : (ts : List Check) → every notRange ts ≡ true → firstOf ts ≡ Refuse OutOfRange → ⊥
-unfolding pick
-others [] h e = let z : _≡_ {A = ℕ} 0 1 = cc in omega arith
-others (t ∷ ts) h e = one (t .when) refl (others ts (both (notRange t) _ h .1))
-  where
-    one : (b : Bool) → t .when ≡ b → (firstOf ts ≡ Refuse OutOfRange → ⊥) → ⊥
-    one true q k =
-        other (t .says) (both (notRange t) _ h .0)
-        (sym (ap (λ (b : Bool). pick b (saying (t .says)) (firstOf ts)) q) ∙ e)
-    one false q k = k (sym (ap (λ (b : Bool). pick b (saying (t .says)) (firstOf ts)) q) ∙ e)
+  pub others : (ts : List Check) → every another ts ≡ true → firstOf ts ≡ Refuse why → ⊥
+  unfolding pick
+  others [] h e = let z : _≡_ {A = ℕ} 0 1 = cc in omega arith
+  others (t ∷ ts) h e = one (t .when) refl (others ts (both (another t) _ h .1))
+    where
+      one : (b : Bool) → t .when ≡ b → (firstOf ts ≡ Refuse why → ⊥) → ⊥
+      one true q k =
+          other (t .says) (both (another t) _ h .0)
+          (sym (ap (λ (b : Bool). pick b (saying (t .says)) (firstOf ts)) q) ∙ e)
+      one false q k = k (sym (ap (λ (b : Bool). pick b (saying (t .says)) (firstOf ts)) q) ∙ e)
 
--- 101 is what the tests say, exactly when the numbers are not good
-pub record Ranged (ts : List Check) (good : Bool) : Type 0 where
-  pub given : good ≡ false → firstOf ts ≡ Refuse OutOfRange
-  pub when : firstOf ts ≡ Refuse OutOfRange → good ≡ false
+  -- it is what the tests say, exactly when b holds
+  pub record SaidWhen (ts : List Check) (b : Bool) : Type 0 where
+    pub given : b ≡ true → firstOf ts ≡ Refuse why
+    pub when : firstOf ts ≡ Refuse why → b ≡ true
 
-ranged : (good : Bool) (ts : List Check) → every notRange ts ≡ true → Ranged (refuse OutOfRange (not good) ∷ ts) good
-unfolding pick
-ranged true ts h = record { given = λ e. cc; when = λ e. absurd (others ts h e) }
-ranged false ts h = record { given = λ e. refl; when = λ e. refl }
+  -- as it is of its own test, if none behind says its number
+  pub said-when : (b : Bool) (ts : List Check) → every another ts ≡ true → SaidWhen (refuse why b ∷ ts) b
+  unfolding pick
+  said-when true ts h = record { given = λ e. refl; when = λ e. refl }
+  said-when false ts h = record { given = λ e. cc; when = λ e. absurd (others ts h e) }
+
+  -- and behind a test that does not hold
+  pub said-behind : (t : Check) (ts : List Check) (b : Bool) → t .when ≡ false → SaidWhen ts b → SaidWhen (t ∷ ts) b
+  said-behind t ts b h d =
+      let e = pick-false (t .when) (saying (t .says)) (firstOf ts) h in
+      record { given = λ z. e ∙ d .given z; when = λ z. d .when (sym e ∙ z) }
 
 -- the gate of a request
 abbrev pub gateAt : Step → Request → Gate
@@ -94,16 +103,20 @@ gateAt s q = byCaller q (gateOf s) (openGate s)
 pub record Tested (g : Gate) (tests own : List Check) (good : Bool) : Type 0 where
   pub ordered : inOrder (100 ∷ numbersOf tests) paperOrder ≡ true
   pub behind : firstOf tests ≡ gated g (firstOf own)
-  pub ranged : Ranged own good
+  pub ranged : SaidWhen OutOfRange own (not good)
 
 -- a service of a caller, whose first test is 101: the numbers are written down, so the order is seen by computing
 named : (s : Step) (c : TaskNumber) (good : Bool) (ts : List Check)
     → inOrder (100 ∷ numbersOf (callerTests s c ++ (refuse OutOfRange (not good) ∷ ts))) paperOrder ≡ true
-    → every notRange ts ≡ true
+    → every (another OutOfRange) ts ≡ true
     → Tested (gateOf s c) (callerTests s c ++ (refuse OutOfRange (not good) ∷ ts))
     (refuse OutOfRange (not good) ∷ ts) good
 named s c good ts o h =
-    record { ordered = o; behind = gate-first s c (refuse OutOfRange (not good) ∷ ts); ranged = ranged good ts h }
+    record {
+      ordered = o;
+      behind = gate-first s c (refuse OutOfRange (not good) ∷ ts);
+      ranged = said-when OutOfRange (not good) ts h;
+    }
 
 pub tested : (s : Step) (q : Request) (ns : Names) (es : Ecbs) (space : ℕ)
     → Tested (gateAt s q) (serviceTests s q ns es space) (ownTests s q ns es space) (rangesGood q ns es)

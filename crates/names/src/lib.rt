@@ -5,7 +5,7 @@ use kinds::Name;
 ghost use mathlib.Core.Path.{_≡_};
 ghost use Prim.Native.Nat.{_≤_, min};
 ghost use Rattle.kinds.specs.Limits.{longestMinor};
-ghost use Rattle.rules.specs.Names.{sameName, legal};
+ghost use Rattle.rules.specs.Names.{sameName, legal, isSystem};
 ghost use Rattle.names.specs.Named.{resourceOf, kept};
 
 // How many bytes of the array stand for a minor part of that length.
@@ -42,6 +42,16 @@ pub fn is_legal(n: Name) -> bool
     ensures { λ r. ⌜ r ≡ legal (resourceOf n) ⌝ }
 {
     Name::minor_good(n.length)
+}
+
+// The major part begins as the system's own do.
+pub fn is_system(n: Name) -> bool
+    ensures { λ r. ⌜ r ≡ isSystem (resourceOf n) ⌝ }
+{
+    let major = n.major;
+    let system = Name::SYSTEM;
+    let k = system.len();
+    lists::same_bytes(&major[..k], &system)
 }
 
 // The name with the bytes past its length zero, as the queue keeps it.

@@ -1,5 +1,6 @@
-// The names beside a request, and the tests of 101.
+// The names beside a request, and the tests of 101 and 110.
 use crate::is_legal;
+use crate::is_system;
 use crate::same_name;
 use kinds::NameList;
 use kinds::Ret;
@@ -9,7 +10,7 @@ ghost use mathlib.Core.Bool.{not};
 ghost use Prim.Native.Nat.{_≤_};
 ghost use Rattle.lists.specs.Lists.{every, some, distinct};
 ghost use Rattle.kinds.specs.Limits.{longestList};
-ghost use Rattle.rules.specs.Names.{Ask, sameName, legal, namesOf, namesGood};
+ghost use Rattle.rules.specs.Names.{Ask, sameName, legal, namesOf, namesGood, asksSystem};
 ghost use Rattle.rules.specs.Enq.{asksShared};
 ghost use Rattle.names.specs.Named.{wantedName, namesIn};
 
@@ -103,4 +104,22 @@ pub fn asks_shared(ret: Ret, l: NameList) -> bool
         Ret::Have => false,
         Ret::Chng => some_shared(l),
     }
+}
+
+// 110: some name is a system name, wherever it stands in the list.
+pub fn asks_system(l: NameList) -> bool
+    requires { ⌜ l .count ≤ longestList ⌝ }
+    ensures { λ r. ⌜ r ≡ asksSystem (namesIn l) ⌝ }
+{
+    let n = l.count as usize;
+    let mut i = 0;
+    while i < n {
+        let w = l.names[i];
+        let m = w.name;
+        if is_system(m) {
+            return true;
+        }
+        i += 1;
+    }
+    false
 }

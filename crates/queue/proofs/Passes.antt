@@ -1,4 +1,4 @@
--- A queue that keeps entries with legal names, no more than its places, passes the packed test.
+-- A queue that keeps entries with lawful names, no more than its places, passes the packed test.
 use mathlib.Core.Path.{_≡_, refl, ap, _∙_}
 use mathlib.Core.Bool.{true, false}
 use mathlib.Core.List.{List, map}
@@ -8,22 +8,22 @@ use lib.ListN.{length, take, length-map}
 use borrow.Author.Tests.{le-ltb, eq-eqb}
 use Rattle.lists.specs.Pick.{pick-false}
 use Rattle.lists.specs.Lists.{every}
-use Rattle.lists.specs.Bools.{join}
+use Rattle.lists.specs.Bools.{both, join}
 use Rattle.lists.specs.Setting.{every-map}
 use Rattle.lists.specs.Tables.{padded, padded-length, padded-take, padded-drop, every-replicate}
 use Rattle.lists.specs.Packed as packed
 use Rattle.kinds.specs.Limits.{mostEntries, longestMinor}
 use Rattle.names.proofs.Listed.{legal-short}
-use Rattle.rules.specs.Names.{legal}
+use Rattle.rules.specs.Names.{legal, lawful}
 use Rattle.rules.specs.Control.{Entry}
 use Rattle.rules.specs.SoundQueue.{entryNamesGood}
 use Rattle.queue.specs.Queues.{slotOf, zeroSlot, storedEntries, isFine, isZero, allFine, restZero, packedEntries}
 use Rattle.queue.proofs.Views.{table}
 
-fine-slot : (e : Entry) → legal (e .name) ≡ true → isFine (slotOf e) ≡ true
-unfolding isFine
+fine-slot : (e : Entry) → lawful (e .name) ≡ true → isFine (slotOf e) ≡ true
+unfolding isFine lawful
 fine-slot e h =
-    let k : length (e .name .minor) ≤ longestMinor = legal-short (e .name) h in
+    let k : length (e .name .minor) ≤ longestMinor = legal-short (e .name) (both (legal (e .name)) _ h .0) in
     pick-false (ltb longestMinor (length (e .name .minor))) false _ (le-ltb longestMinor (length (e .name .minor)) k)
     ∙ rw (eq-eqb (length (padded longestMinor 0 (e .name .minor))) longestMinor
     (padded-length longestMinor 0 (e .name .minor) k))
@@ -38,5 +38,5 @@ stored-passes l k h =
     pick-false (ltb mostEntries (length (map slotOf l))) false _ (le-ltb mostEntries (length (map slotOf l)) m)
     ∙ join (every isFine (take (length (map slotOf l)) (padded mostEntries zeroSlot (map slotOf l)))) _
     (ap (every isFine) (padded-take mostEntries zeroSlot (map slotOf l))
-    ∙ every-map slotOf (λ (e : Entry). legal (e .name)) isFine fine-slot l h)
+    ∙ every-map slotOf (λ (e : Entry). lawful (e .name)) isFine fine-slot l h)
     (packed.rest-passes table isZero refl (map slotOf l) m)

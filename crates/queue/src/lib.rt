@@ -14,8 +14,10 @@ ghost use Prim.Native.Nat.{_≤_};
 ghost use lib.ListN.{replicate};
 ghost use Rattle.lists.specs.Lists.{sameBytes};
 ghost use Rattle.kinds.specs.Limits.{mostEntries, longestMinor, majorBytes};
+ghost use Rattle.rules.specs.Names.{lawful};
 ghost use Rattle.rules.specs.Rings.{bars as barsOf};
 ghost use Rattle.rules.specs.SoundQueue.{sameRequest, entriesOnce, entryNamesGood, queueFits};
+ghost use Rattle.names.specs.Named.{resourceOf};
 ghost use Rattle.queue.specs.Queues.{entryOf, storedEntries, entriesIn, isFine, isZero, allFine, restZero};
 ghost use Rattle.queue.specs.Queues.{packedEntries};
 ghost use Rattle.queue.specs.Marking.{marksAmong};
@@ -205,6 +207,13 @@ pub fn entries_once(q: Queue) -> bool
     true
 }
 
+// A name that sound tables may hold.
+fn is_lawful(n: Name) -> bool
+    ensures { λ r. ⌜ r ≡ lawful (resourceOf n) ⌝ }
+{
+    names::is_legal(n) & !names::is_system(n)
+}
+
 pub fn entry_names_good(q: Queue) -> bool
     requires { ⌜ q .count ≤ mostEntries ⌝ }
     ensures { λ r. ⌜ r ≡ entryNamesGood (entriesIn q) ⌝ }
@@ -214,7 +223,7 @@ pub fn entry_names_good(q: Queue) -> bool
     while i < n {
         let x = q.slots[i];
         let m = x.name;
-        if !names::is_legal(m) {
+        if !is_lawful(m) {
             return false;
         }
         i += 1;

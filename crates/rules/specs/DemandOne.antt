@@ -18,13 +18,13 @@ use Rattle.rules.specs.Abend.{abendOf}
 use Rattle.rules.specs.Fresh.{freshStep, freshGood, freshOf}
 use Rattle.rules.specs.Serve.{Asked, serveOf, testsOf}
 
--- THE PAPER'S ORDER: its table from the top, with the program errors "tested after 104", 204
--- before 203, 105 "tested after 201", and 205 behind the search that 107 is tested before.
+-- THE PAPER'S ORDER: its table from the top, with 110 of document 02 §2 "after 101 and before 104", the program errors
+-- "tested after 104", 204 before 203, 105 "tested after 201", and 205 behind the search that 107 is tested before.
 -- No request has both 109 and a program error, so the two could stand either way round. That
 -- no test is missing from a service's list is demand 2's: the lists are what it runs by.
 abbrev pub paperOrder : List ℕ
 paperOrder =
-    100 ∷ 108 ∷ 102 ∷ 103 ∷ 101 ∷ 104 ∷ 109 ∷ 201 ∷ 202 ∷ 204 ∷ 203 ∷ 206 ∷ 207 ∷ 208 ∷ 105 ∷ 106 ∷ 107 ∷ 205 ∷ []
+    100 ∷ 108 ∷ 102 ∷ 103 ∷ 101 ∷ 110 ∷ 104 ∷ 109 ∷ 201 ∷ 202 ∷ 204 ∷ 203 ∷ 206 ∷ 207 ∷ 208 ∷ 105 ∷ 106 ∷ 107 ∷ 205 ∷ []
 
 -- what is promised of an answer r to a request a on tables t, where ts
 -- are the request's tests, and abended what ABEND without STEP leaves

@@ -1,8 +1,8 @@
 -- EVERY DEFINITION OPEN, under one name: a proof that says `unfolding rules-open` computes with all of document 01 and
--- of document 02 §1.
+-- of what has landed of document 02.
 use Rattle.lists.specs.Pick.{pick}
 use Rattle.kinds.specs.Ranges.{between, dpmodGood}
-use Rattle.rules.specs.Names.{legal, namesGood}
+use Rattle.rules.specs.Names.{legal, isSystem, lawful, namesGood, asksSystem}
 use Rattle.rules.specs.Control.{granted, available, control}
 use Rattle.rules.specs.Rings.{bars, waitsFor, leadsBy, stuck}
 use Rattle.rules.specs.Steps.{overStep}
@@ -41,7 +41,8 @@ use Rattle.rules.specs.Reports.{stuckTasks, queuesOf, stuckList, queuesL
 use Rattle.rules.specs.Reading.{climbs, endsWith}
 
 unfoldable pub rules-open : Unit {0}
-unfolding pick between dpmodGood legal namesGood granted available control bars waitsFor leadsBy stuck overStep
+unfolding pick between dpmodGood legal isSystem lawful namesGood asksSystem granted available control bars waitsFor
+    leadsBy stuck overStep
     place used mother chain below isSubtaskOf waitAt ecbsGood wordOf onePostFewer unwaited bitsLeft woken signalled
     endAt areaStays waiterStays leftBy detached ended failing admitted gateOf openGate through settled begunWith
     freshGood freshOf heldTo newDispatching attachGood attachVerdict newTask attachDone detachGood detachVerdict

@@ -9,7 +9,7 @@ use Rattle.lists.specs.Loops.{All, all-start, all-stops, all-goes-on, all-over,
 use Rattle.lists.specs.Arrays.{mapped-length}
 use Rattle.queue.specs.Queues.{entryOf}
 use Rattle.rules.specs.SoundQueue.{entryNamesGood}
-use Rattle.rules.specs.Names.{legal}
+use Rattle.rules.specs.Names.{lawful}
 use Rattle.rules.specs.Control.{Entry}
 use Rattle.kinds.specs.Limits.{mostEntries}
 use Rattle.kinds.specs.declared.names.Slot.{Slot}
@@ -17,7 +17,7 @@ use Rattle.queue.proofs.entry_names_good.Statement.{statement}
 use Rattle.queue.proofs.entry_names_good.Tie as tie
 
 abbrev good : Entry → Bool
-good e = legal (e .name)
+good e = lawful (e .name)
 
 abbrev Inv-loop : tie.InvT-loop
 Inv-loop q n i₀ i =
@@ -36,15 +36,15 @@ mul-x c = omega arith
 element-copy-out-x : tie.Need-element-copy-out-x Inv-loop μ-loop
 element-copy-out-x c = omega arith
 
-is-legal-requires : tie.Need-is-legal-requires Inv-loop μ-loop
-is-legal-requires c κs = search needs
+is-lawful-requires : tie.Need-is-lawful-requires Inv-loop μ-loop
+is-lawful-requires c κs = search needs
 
 returns : tie.Need-returns Inv-loop μ-loop
 unfolding entryNamesGood
 returns c =
     let t = c .before .before .before .before .before in
     let q = t .before .args .t1 in
-    all-stops (t .loop .inv .3) (omega arith) (omega arith) _ (c .before .is-legal .ensures) (c .if1 .taken)
+    all-stops (t .loop .inv .3) (omega arith) (omega arith) _ (c .before .is-lawful .ensures) (c .if1 .taken)
     ∙ all-shown entryOf good (q .count) (q .slots)
 
 add-i : tie.Need-add-i Inv-loop μ-loop
@@ -56,7 +56,7 @@ loop-less c = omega arith
 loop-again : tie.Need-loop-again Inv-loop μ-loop
 loop-again c =
     let v = c .before .before .before .before .before .loop .inv .3 in
-    let e = all-goes-on v (omega arith) (omega arith) _ (c .before .is-legal .ensures) (c .if1 .left) in
+    let e = all-goes-on v (omega arith) (omega arith) _ (c .before .is-lawful .ensures) (c .if1 .left) in
     (omega arith, omega arith, omega arith, e)
 
 returns-2 : tie.Need-returns-2 Inv-loop μ-loop
@@ -67,5 +67,5 @@ returns-2 c =
 
 pub entry-names-good-spec : {M : Type 1} → statement M
 entry-names-good-spec =
-    tie.close (tie.spec Inv-loop μ-loop loop-holds mul-x element-copy-out-x is-legal-requires returns add-i loop-less
+    tie.close (tie.spec Inv-loop μ-loop loop-holds mul-x element-copy-out-x is-lawful-requires returns add-i loop-less
     loop-again returns-2)

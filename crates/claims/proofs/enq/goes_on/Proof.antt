@@ -4,15 +4,15 @@ use borrow.Author.Tests.{not-true, not-false}
 use borrow.Author.Needs.{needs}
 use Rattle.lists.specs.Pick.{pick}
 use Rattle.names.proofs.Listed.{good-count}
-use Rattle.claims.proofs.Coding.{enq-go}
+use Rattle.laws.specs.EnqPassed.{enq-passed}
 use Rattle.claims.proofs.enq.goes_on.Statement.{statement}
 use Rattle.claims.proofs.enq.goes_on.Tie as tie
 
 write-codes-requires : tie.Need-write-codes-requires
 write-codes-requires c κs =
     let p = c .before .before .pre in
-    let g = enq-go _ _ _ _ _ (p .1) in
-    ((p .0 .0 .room, good-count _ (g .0)), g .1 .0)
+    let g = enq-passed _ _ _ _ _ (p .1) in
+    ((p .0 .0 .room, good-count _ (g .good)), g .coded)
 
 same-length : tie.Need-same-length
 same-length c = search needs
@@ -27,8 +27,9 @@ change-requires : tie.Need-change-requires
 change-requires c κs =
     let k = c .before .before .before in
     let p = k .before .before .before .pre in
-    let g = enq-go _ _ _ _ _ (p .1) in
-    (p .0, record { good = g .0; room = g .1 .1; zero = sym (k .write-codes .ensures .0) ∙ not-false _ (c .if1 .left) })
+    let g = enq-passed _ _ _ _ _ (p .1) in
+    let z = sym (k .write-codes .ensures .0) ∙ not-false _ (c .if1 .left) in
+    (p .0, record { good = g .good; room = g .room; zero = z })
 
 same-length-2 : tie.Need-same-length-2
 same-length-2 c = search needs

@@ -1,0 +1,53 @@
+-- DOCUMENT 02 §2 of the code: what a call of ENQ, by the method or by `serve`, answers to a list with a system name;
+-- and that after any calls from a fresh step no such name is queued.
+use mathlib.Core.Path.{_≡_, sym, ap, _∙_}
+use mathlib.Core.Bool.{true, false}
+use mathlib.Core.List.{List}
+use Prim.Native.Nat.{ℕ}
+use Rattle.lists.specs.Lists.{some}
+use Rattle.kinds.specs.Replies.{refusalNumber}
+use Rattle.kinds.specs.declared.numbers.TaskNumber.{TaskNumber}
+use Rattle.kinds.specs.declared.requests.Ret.{Ret}
+use Rattle.kinds.specs.declared.replies.Reply.the-variants.{Done}
+use Rattle.kinds.specs.declared.replies.Refusal.the-variants.{SystemName}
+use Rattle.kinds.specs.declared.replies.Gate.the-variants.{Open}
+use Rattle.rules.specs.Names.{Names, asksSystem}
+use Rattle.rules.specs.Events.{Ecbs}
+use Rattle.rules.specs.Steps.{Served, refused, untouched}
+use Rattle.rules.specs.Admission.{gateOf}
+use Rattle.rules.specs.Enq.{enqGood}
+use Rattle.rules.specs.Reading.{Turn, queueRead}
+use Rattle.rules.specs.Serve.{Asked}
+use Rattle.laws.specs.SystemNames.{forSystem, enqAsked, system-refused, system-only}
+use Rattle.history.proofs.NoSystemName.{told-no-system}
+use Rattle.services.specs.Kept.{stepOf, saidWith, servedBy, soundb}
+use Rattle.services.specs.declared.Tables.{Tables}
+use Rattle.services.specs.declared.Answer.{Answer}
+use Rattle.services.proofs.Glue.{sound-packed, sound-step, refused-kept}
+use Rattle.services.proofs.Tables.fresh.Reads as fresh
+use Rattle.calls.specs.Called.{Called}
+use Rattle.calls.specs.Calls.{Call, Calls}
+use Rattle.calls.proofs.Runs.{promises, as-ruled, calls-demand-three}
+
+module _ (t : Tables) (c : TaskNumber) (ret : Ret) (l : Names) (es : Ecbs) (area : List ℕ) (r : Answer)
+    (codes : List ℕ) (k : Call t (enqAsked c ret l es area) r codes) (h : soundb t ≡ true)
+    (o : gateOf (stepOf t) c ≡ Open) (good : enqGood ret l ≡ true) where
+  abbrev asked : Asked
+  asked = enqAsked c ret l es area
+
+  -- 110 is answered, and neither a table nor a byte of the area changes ..
+  pub call-system-refused : asksSystem l ≡ true → saidWith r codes ≡ untouched area (refused SystemName t)
+  call-system-refused e =
+      as-ruled t asked r codes h (promises k)
+      ∙ ap servedBy (system-refused (stepOf t) c ret l es area (sound-step t h) o good e)
+      ∙ ap (untouched area) (sym (refused-kept t SystemName (sound-packed t h)))
+
+  -- .. exactly when some name of the list is a system name
+  pub call-system-only : saidWith r codes .outcome .number ≡ refusalNumber SystemName → asksSystem l ≡ true
+  call-system-only e =
+      system-only (stepOf t) c ret l es area (sound-step t h) o good
+      (sym (ap (λ (x : Served Tables). x .outcome .number) (as-ruled t asked r codes h (promises k))) ∙ e)
+
+pub calls-no-system : (f : Called fresh.Post) → f .result .reply ≡ Done → {t : Tables} {us : List Turn}
+    → Calls (f .result .tables) us t → some forSystem (queueRead us) ≡ false
+calls-no-system f z {t} {us} k = told-no-system us (stepOf t) (calls-demand-three f z k)

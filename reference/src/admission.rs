@@ -1,4 +1,5 @@
-//! The tests down to 104, which every request goes through in this order.
+//! The tests down to 104, which every request goes through in this order; 110 of document 02,
+//! section 2, "comes after 101 and before 104".
 
 use crate::names::{stands_twice, Asked};
 use crate::numbers::{is_address, is_ecb, is_length, is_task};
@@ -38,6 +39,9 @@ pub fn refusal(step: &Step, request: &Request, lists: Lists, codes: usize) -> Op
     if !numbers_are_right(request, lists) {
         return Some(101);
     }
+    if asks_for_the_systems(request, lists.names) {
+        return Some(110);
+    }
     // 104: codes are due and the codes area is shorter than the list
     if request.codes_are_due() && codes < lists.names.len() {
         return Some(104);
@@ -69,6 +73,15 @@ fn numbers_are_right(request: &Request, lists: Lists) -> bool {
             is_address(address) && is_length(length) && subpool <= SUBPOOL
         }
         Request::Dispatch => true,
+    }
+}
+
+/// 110: "ENQ refuses with 110 any list with a major name" of the system's: in every RET kind,
+/// so also where nothing would be queued.  "DEQ isn't changed."
+fn asks_for_the_systems(request: &Request, names: &[Asked]) -> bool {
+    match *request {
+        Request::Enq { .. } => names.iter().any(|asked| asked.name.is_the_systems()),
+        _ => false,
     }
 }
 

@@ -1,5 +1,5 @@
-//! A plain reference implementation of the services of document 01, and of the reports of
-//! document 02.
+//! A plain reference implementation of the services of document 01, and of sections 1 and 2 of
+//! document 02: the reports, the system's names.
 //!
 //!     reference                            answer the job script on standard input
 //!     reference generate SEED KIND COUNT   write a script of about COUNT requests and reports

@@ -2,6 +2,10 @@
 
 use crate::numbers::{MAJOR, MINOR};
 
+/// Document 02, section 2: "a major name whose first three bytes are hexadecimal E2 E8 E2".
+/// They spell SYS in EBCDIC.
+pub const SYSTEM: [u8; 3] = [0xe2, 0xe8, 0xe2];
+
 /// "A name is a major part of 8 bytes and a minor part of 1 to 44 bytes,
 /// compared with its length."  Bytes past the length are kept zero by the
 /// script reader; tables in which they are not zero are unsound, so that the
@@ -25,6 +29,11 @@ impl Name {
     pub fn rest_is_zero(&self) -> bool {
         let used = MINOR.min(self.length as usize);
         self.minor[used..].iter().all(|byte| *byte == 0)
+    }
+
+    /// Is it one of "the system's names"?  The minor part has no say.
+    pub fn is_the_systems(&self) -> bool {
+        self.major.starts_with(&SYSTEM)
     }
 }
 

@@ -7,7 +7,7 @@ use crate::printer::{self, FILL};
 use crate::reports::queues::{self, Queued};
 use crate::reports::stuck::{self, Stuck};
 use crate::reports::{report, Report};
-use crate::request::{Answer, Request};
+use crate::request::{Answer, Lists, Request};
 use crate::script::{Line, Reader, MOST_CODES};
 use crate::services::serve;
 use crate::tables::Step;
@@ -83,6 +83,16 @@ impl Runner {
         }
     }
 
+    /// The lists of the line just taken.
+    pub fn lists(&self) -> Lists<'_> {
+        self.reader.lists()
+    }
+
+    /// The codes area of the line just taken, as it was lent and then written.
+    pub fn codes(&self) -> &[u8] {
+        &self.codes[..self.codes_length]
+    }
+
     /// Lend a list area of so many items and have a report written there.
     fn report(&mut self, which: Report, room: usize) -> Answer {
         match which {
@@ -106,7 +116,7 @@ impl Runner {
             Outcome::Poked => out.extend_from_slice(b"ok\n"),
             Outcome::Dumped => printer::dump(out, &self.step),
             Outcome::Started(answer) | Outcome::Served(_, answer) => {
-                printer::answer(out, answer, &self.codes[..self.codes_length])
+                printer::answer(out, answer, self.codes())
             }
             Outcome::Reported(report, answer) => {
                 printer::answer(out, answer, &[]);

@@ -1,5 +1,6 @@
-//! The rules of the section "Sound tables" of document 01, each a function.
-//! Every rule can be asked about any tables, whatever the others say.
+//! The rules of the section "Sound tables" of document 01, and the one that section 2 of
+//! document 02 adds, each a function.  Every rule can be asked about any tables, whatever the
+//! others say.
 
 use crate::control::lacking;
 use crate::numbers::{is_address, is_ecb, is_length, is_task};
@@ -9,11 +10,12 @@ use crate::tables::{Area, Ecb, Entry, Step, Task, ENDED, FREE, LIVE};
 pub type Rule = fn(&Step) -> bool;
 
 /// All rules, cheap ones first; the order decides nothing.
-pub const RULES: [(&str, Rule); 31] = [
+pub const RULES: [(&str, Rule); 32] = [
     ("over-empty", over_is_empty),
     ("range-step", step_in_range),
     ("range-task", tasks_in_range),
     ("range-entry", entries_in_range),
+    ("system-name", no_names_of_the_system),
     ("range-ecb", ecbs_in_range),
     ("range-area", areas_in_range),
     ("packed-entry", entries_packed),
@@ -82,6 +84,11 @@ fn tasks_in_range(step: &Step) -> bool {
 fn entries_in_range(step: &Step) -> bool {
     let legal = |e: &Entry| is_task(e.task) && e.excl <= 1 && e.name.length_is_legal();
     step.used_entries().iter().all(legal)
+}
+
+/// Document 02, section 2: "Sound tables hold no such name."
+fn no_names_of_the_system(step: &Step) -> bool {
+    step.used_entries().iter().all(|e| !e.name.is_the_systems())
 }
 
 /// "Every number is in its range"; waiter 0 is none.

@@ -1,7 +1,8 @@
 //! Counts what a script reaches: answers per service and report, rules of sound tables
-//! broken, what the lists of the reports show.
+//! broken, what the lists of the reports show, what the system's names come to.
 
 mod sights;
+mod system;
 
 use std::collections::BTreeMap;
 use std::io::{BufRead, Result, Write};
@@ -22,11 +23,11 @@ const EXPECTED: [(&str, &[u32]); 21] = [
     ("end", &[0, 100, 101, 102, 103, 108, 207]),
     ("abend", &[0, 100, 101, 102, 103, 108]),
     ("abend-step", &[0, 100, 101, 102, 103, 108]),
-    ("enq-none", &[0, 100, 101, 102, 103, 105, 108, 201]),
-    ("enq-test", &[0, 4, 100, 101, 102, 103, 104, 108]),
-    ("enq-use", &[0, 4, 100, 101, 102, 103, 104, 105, 108]),
-    ("enq-have", &[0, 4, 100, 101, 102, 103, 104, 105, 108]),
-    ("enq-chng", &[0, 4, 100, 101, 102, 103, 104, 108]),
+    ("enq-none", &[0, 100, 101, 102, 103, 105, 108, 110, 201]),
+    ("enq-test", &[0, 4, 100, 101, 102, 103, 104, 108, 110]),
+    ("enq-use", &[0, 4, 100, 101, 102, 103, 104, 105, 108, 110]),
+    ("enq-have", &[0, 4, 100, 101, 102, 103, 104, 105, 108, 110]),
+    ("enq-chng", &[0, 4, 100, 101, 102, 103, 104, 108, 110]),
     ("deq-none", &[0, 100, 101, 102, 103, 108, 202]),
     ("deq-have", &[0, 4, 100, 101, 102, 103, 104, 108]),
     ("wait", &[0, 100, 101, 102, 103, 108, 203, 204]),
@@ -38,6 +39,13 @@ const EXPECTED: [(&str, &[u32]); 21] = [
     ("stuck", &[0, 100, 104, 108]),
     ("queues", &[0, 100, 104, 108]),
 ];
+
+/// All that is looked for beside answers and rules.
+fn all_sights() -> Vec<Sight> {
+    let mut all = sights::all();
+    all.extend(system::all());
+    all
+}
 
 fn word(request: &Request) -> &'static str {
     match *request {
@@ -87,6 +95,12 @@ impl Counts {
         *self.answers.entry((word, answer.number)).or_insert(0) += 1;
     }
 
+    fn see(&mut self, sights: Vec<Sight>) {
+        for sight in sights {
+            *self.sights.entry(sight).or_insert(0) += 1;
+        }
+    }
+
     fn unsound(&mut self, runner: &Runner) {
         let broken: Vec<&'static str> =
             RULES.iter().filter(|(_, rule)| !rule(&runner.step)).map(|(name, _)| *name).collect();
@@ -128,6 +142,7 @@ impl Counts {
             Outcome::Served(request, answer) => {
                 self.one("requests");
                 self.answer(word(&request), answer);
+                self.named(&before, runner, request, answer);
                 if answer.number == 100 {
                     self.unsound(runner);
                 } else {
@@ -149,9 +164,16 @@ impl Counts {
         if answer.number == 100 {
             self.unsound(runner);
         } else if answer.number != 108 {
-            for sight in sights::seen(runner, report) {
-                *self.sights.entry(sight).or_insert(0) += 1;
-            }
+            self.see(sights::seen(runner, report));
+        }
+    }
+
+    /// What ENQ and DEQ made of the names on their lists.
+    fn named(&mut self, before: &Step, runner: &Runner, request: Request, answer: Answer) {
+        if let Request::Enq { .. } | Request::Deq { .. } = request {
+            let (names, codes) = (runner.lists().names, runner.codes());
+            let made = system::Made { before, request, names, codes, answer };
+            self.see(system::seen(word(&request), &made));
         }
     }
 
@@ -204,7 +226,7 @@ impl Counts {
         for (what, count) in self.events.iter() {
             writeln!(output, "{}: {}", what, count)?;
         }
-        for sight in sights::all() {
+        for sight in all_sights() {
             let count = self.sights.get(&sight).cloned().unwrap_or(0);
             writeln!(output, "{} {}: {}", sight.0, sight.1, count)?;
         }
@@ -232,7 +254,7 @@ impl Counts {
         for (name, _) in RULES.iter().filter(|(name, _)| !self.rules.contains_key(name)) {
             writeln!(output, "gap: rule {} never broken", name)?;
         }
-        for sight in sights::all().iter().filter(|sight| !self.sights.contains_key(*sight)) {
+        for sight in all_sights().iter().filter(|sight| !self.sights.contains_key(*sight)) {
             writeln!(output, "gap: {} never {}", sight.0, sight.1)?;
         }
         Ok(())

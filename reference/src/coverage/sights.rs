@@ -9,7 +9,7 @@ use crate::rings::Waits;
 use crate::runner::Runner;
 use crate::tables::Entry;
 
-/// The report's word, and what it shows.
+/// The word of a report or request, and what it shows.
 pub type Sight = (&'static str, &'static str);
 
 /// Of both: the room that was lent, and what the list needs.

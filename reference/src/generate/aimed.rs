@@ -9,13 +9,14 @@ use crate::tables::{Area, Ecb};
 impl<'a> Generator<'a> {
     /// One poke at the edge of a rule, on either side of it.
     pub fn aimed_poke(&mut self) -> Result<Vec<String>> {
-        let aimed = match self.random.below(8) {
+        let aimed = match self.random.below(9) {
             0 => self.aim_at_waited_ecb(),
             1 => self.aim_at_complete_ecb(),
             2 | 3 => self.aim_at_neighbours(),
             4 => self.aim_at_need(),
             5 => self.aim_at_entry(),
             6 => self.aim_at_task(),
+            7 => self.aim_at_major(),
             _ => self.aim_at_area(),
         };
         match aimed {
@@ -105,6 +106,16 @@ impl<'a> Generator<'a> {
                 (format!("entry {} minor", i), text)
             }
         })
+    }
+
+    /// "Sound tables hold no such name": a major part of the system, or nearly such.
+    fn aim_at_major(&mut self) -> Option<(String, String)> {
+        let count = self.runner.step.entry_count as u32;
+        if count == 0 {
+            return None;
+        }
+        let i = self.random.below(count);
+        Some((format!("entry {} major", i), self.system_or_near_major()))
     }
 
     /// Priorities at their edges, mothers, states, waits.

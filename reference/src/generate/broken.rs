@@ -58,8 +58,7 @@ impl<'a> Generator<'a> {
             places.extend(place);
         }
         for _ in 0..self.random.between(1, 3) {
-            let sort = self.random.below(SORTS as u32) as usize;
-            let line = self.line_of(sort);
+            let line = self.line_for_poked();
             self.say(&line)?;
         }
         if self.random.one_in(3) {
@@ -72,6 +71,16 @@ impl<'a> Generator<'a> {
             return self.mend(&before, &places);
         }
         self.fresh()
+    }
+
+    /// A line of any service or report; or where a name of the system was poked, one that asks
+    /// for such a name or gives it back.
+    fn line_for_poked(&mut self) -> String {
+        if self.tables_hold_a_system_name() && self.random.one_in(3) {
+            return self.system_line();
+        }
+        let sort = self.random.below(SORTS as u32) as usize;
+        self.line_of(sort)
     }
 
     /// Poke the fields back, last one first, as they stood before.
@@ -178,11 +187,12 @@ impl<'a> Generator<'a> {
 
     /// Several pokes that belong together.
     fn many_pokes(&mut self) -> Result<Vec<String>> {
-        match self.random.below(5) {
+        match self.random.below(6) {
             0 => self.poke_double_entry(),
             1 => self.poke_new_area(),
-            2 => self.poke_waiters(),
-            3 => self.poke_ended(),
+            2 => self.poke_system_entry(),
+            3 => self.poke_waiters(),
+            4 => self.poke_ended(),
             _ => self.poke_mothers(),
         }
     }
@@ -203,6 +213,24 @@ impl<'a> Generator<'a> {
             }
             let at = if shift == 9 && count + 1 < ENTRIES { count + 1 } else { count };
             places.extend(self.poke(format!("entry {} {}", at, field), &value)?);
+        }
+        Ok(places)
+    }
+
+    /// An entry at the tail for a name of the system, or nearly such, of a live task.
+    fn poke_system_entry(&mut self) -> Result<Vec<String>> {
+        let count = self.runner.step.entry_count;
+        if count == ENTRIES {
+            return Ok(Vec::new());
+        }
+        let major = self.system_or_near_major();
+        let excl = self.random.below(2).to_string();
+        let caller = self.caller().to_string();
+        let mut places = Vec::new();
+        for (field, value) in
+            [("major", major.as_str()), ("length", "1"), ("excl", &excl), ("task", &caller)].iter()
+        {
+            places.extend(self.poke(format!("entry {} {}", count, field), value)?);
         }
         Ok(places)
     }

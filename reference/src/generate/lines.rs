@@ -106,7 +106,7 @@ impl<'a> Generator<'a> {
     }
 
     /// Codes areas are mostly long enough.
-    fn codes_length(&mut self, names: usize) -> u32 {
+    pub fn codes_length(&mut self, names: usize) -> u32 {
         match self.random.below(20) {
             0 => self.random.below(names as u32 + 1),
             1 => 64,
@@ -116,6 +116,9 @@ impl<'a> Generator<'a> {
     }
 
     fn enq_line(&mut self) -> String {
+        if self.random.percent(self.habits.system) {
+            return self.system_enq_line();
+        }
         let ret = self.random.pick(&["none", "none", "test", "use", "use", "have", "have", "chng"]);
         let caller =
             if ret == "chng" { self.caller_where(|g, n| g.holds_any(n)) } else { self.caller() };
@@ -132,7 +135,7 @@ impl<'a> Generator<'a> {
     }
 
     /// Distinct names: mostly new ones for the caller, or with CHNG those it holds.
-    fn names_for(&mut self, caller: u32, ret: &str) -> Vec<Name> {
+    pub fn names_for(&mut self, caller: u32, ret: &str) -> Vec<Name> {
         let held = self.held_by(caller);
         let wanted = self.list_length();
         let mut names: Vec<Name> = Vec::new();
@@ -155,6 +158,10 @@ impl<'a> Generator<'a> {
     }
 
     fn deq_line(&mut self) -> String {
+        // less often than ENQ: with NONE it ends the caller
+        if self.random.percent(self.habits.system) && self.random.one_in(2) {
+            return self.system_deq_line();
+        }
         let caller = self.caller_where(|g, n| g.holds_any(n));
         let mut names = self.held_by(caller);
         if names.is_empty() && !self.random.one_in(8) {

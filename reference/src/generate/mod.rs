@@ -11,6 +11,7 @@ mod lines;
 mod plays;
 mod reports;
 mod storm;
+mod system;
 
 use std::io::{Result, Write};
 

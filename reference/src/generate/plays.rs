@@ -5,7 +5,7 @@ use std::io::Result;
 use super::lines::text_of;
 use super::Generator;
 use crate::names::Name;
-use crate::numbers::{AREAS, ENTRIES, TASKS};
+use crate::numbers::{AREAS, ENTRIES, LIST, TASKS};
 use crate::rings::Waits;
 
 impl<'a> Generator<'a> {
@@ -77,6 +77,10 @@ impl<'a> Generator<'a> {
                 names.push(name);
             }
         }
+        if names.len() < LIST && self.random.one_in(40) {
+            // refused, so that the task has queued nothing and keeps to its habit
+            names.push(self.system_name());
+        }
         let ret = self.random.pick(&["none 0", "none 0", "have 16", "use 16"]);
         let mut line = format!("enq {} {}", caller, ret);
         for name in names {
@@ -142,6 +146,8 @@ impl<'a> Generator<'a> {
             let line = self.line_of(4);
             self.say(&line)?;
         }
+        let line = self.system_enq_line();
+        self.say(&line)?;
         self.report()?;
         Ok(())
     }

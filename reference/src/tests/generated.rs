@@ -49,7 +49,7 @@ fn sound_tables_stay_sound_and_refusals_change_nothing() {
         each_request(&script(1, kind, 1500), |before, after, answer| {
             let line = after.line;
             assert_eq!(answer.number == 100, !is_sound(&before.step), "{} {}", kind, line);
-            if answer.number == 100 || 101 <= answer.number && answer.number <= 109 {
+            if answer.number == 100 || 101 <= answer.number && answer.number <= 110 {
                 assert!(before.step == after.step, "{} {}", kind, line);
             } else {
                 assert!(is_sound(&after.step), "{} {}", kind, line);

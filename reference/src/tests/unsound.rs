@@ -1,6 +1,7 @@
 //! Each rule of sound tables, broken from tables that keep them all.
 
 use super::dumped;
+use crate::names::SYSTEM;
 use crate::runner::Runner;
 use crate::sound::{is_sound, RULES};
 use crate::tables::{Area, Step};
@@ -94,6 +95,23 @@ fn entries() {
     breaks("resource-wait", |s| s.tasks[5].rwait = 0);
     breaks("resource-wait", |s| s.tasks[2].rwait = 1);
     breaks("one-wait", |s| s.tasks[5].need = 1);
+}
+
+/// Beside the rule on name lengths, and apart from it.
+#[test]
+fn names_of_the_system() {
+    let poke = |s: &mut Step, i: usize| s.entries[i].name.major[..3].copy_from_slice(&SYSTEM);
+    for i in 0..3 {
+        breaks("system-name", |s| poke(s, i));
+    }
+    let mut step = full_life();
+    poke(&mut step, 2);
+    assert_eq!(broken(&step), ["system-name"]);
+    step.entries[2].name.length = 0;
+    step.entries[2].name.minor[0] = 0;
+    assert_eq!(broken(&step), ["range-entry", "system-name"]);
+    step.entries[2].name.major[2] += 1;
+    assert_eq!(broken(&step), ["range-entry"]);
 }
 
 #[test]

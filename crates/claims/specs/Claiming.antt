@@ -1,6 +1,6 @@
 -- What ENQ and DEQ make of the queue and the tasks.
 use mathlib.Core.Path.{_≡_}
-use mathlib.Core.Bool.{Bool, true, false, _&&_}
+use mathlib.Core.Bool.{Bool, true, false}
 use mathlib.Core.List.{List, map}
 use Prim.Native.Nat.{ℕ}
 use lib.ListN.{length}
@@ -17,7 +17,7 @@ use Rattle.kinds.specs.declared.requests.Ret.the-variants.{None, Test, Use, Hav
 use Rattle.kinds.specs.declared.tasks.Task.{Task}
 use Rattle.rules.specs.Names.{Names, namesOf, namesGood}
 use Rattle.rules.specs.Control.{Entry}
-use Rattle.rules.specs.Codes.{allZero, writtenOn, tooShort}
+use Rattle.rules.specs.Codes.{allZero, writtenOn}
 use Rattle.rules.specs.Steps.{Step, withTasks, withQueue}
 use Rattle.rules.specs.ResourceWaits.{waitsBy}
 use Rattle.rules.specs.Admission.{gateOf, onGo, codesThrough}
@@ -91,10 +91,6 @@ deqBy v ret q f c l = record {
 -- the codes at the front of an area, if they are due
 abbrev pub writtenIf : Bool → List ℕ → List ℕ → List ℕ
 writtenIf due codes area = pick due (writtenOn codes area) area
-
--- where codes are due, the codes area has room for them
-abbrev pub CodesFit : Bool → ℕ → Names → Type 0
-CodesFit due room l = (due && tooShort room l) ≡ false
 
 -- ENQ's tests go on, with this codes area
 abbrev pub EnqGoes : Queue → TaskNumber → Ret → Names → List ℕ → Type 0

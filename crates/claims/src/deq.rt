@@ -20,7 +20,8 @@ ghost use Rattle.rules.specs.Names.{namesOf};
 ghost use Rattle.rules.specs.Codes.{allZero};
 ghost use Rattle.rules.specs.Deq.{released as releasedOf, deqCodes, deqCodesDue, deqWritten};
 ghost use Rattle.queue.specs.Queues.{entriesIn};
-ghost use Rattle.claims.specs.Claiming.{CallerAdmitted, requeuedTo, CodesFit};
+ghost use Rattle.laws.specs.Passed.{CodesFit};
+ghost use Rattle.claims.specs.Claiming.{CallerAdmitted, requeuedTo};
 ghost use Rattle.claims.specs.Claiming.{deqBy, DeqGoes, deqClaimed, deqLeaves};
 
 // A code for each name, of the queue as it is, written where codes are due; says whether all are 0.

@@ -25,7 +25,8 @@ ghost use Rattle.rules.specs.Control.{available, soleOwner};
 ghost use Rattle.rules.specs.Codes.{allZero};
 ghost use Rattle.rules.specs.Enq.{enqCodes, enqCodesDue, withTail, enqWritten};
 ghost use Rattle.queue.specs.Queues.{entriesIn};
-ghost use Rattle.claims.specs.Claiming.{CallerAdmitted, Unhindered, requeuedTo, CodesFit};
+ghost use Rattle.laws.specs.Passed.{CodesFit};
+ghost use Rattle.claims.specs.Claiming.{CallerAdmitted, Unhindered, requeuedTo};
 ghost use Rattle.claims.specs.Claiming.{enqChanged, enqBy, EnqGoes, enqClaimed, enqLeaves};
 
 // A code for each name, of the queue as it is, written where codes are due; says whether all are 0.

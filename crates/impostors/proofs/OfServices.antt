@@ -71,7 +71,6 @@ use Rattle.rules.specs.Dispatch.{dispatchOf}
 use Rattle.rules.specs.Sound.{soundStep}
 use Rattle.rules.specs.Fresh.{freshStep}
 use Rattle.rules.specs.Serve.{serviceOf}
-use Rattle.laws.specs.SystemNames.{forSystem}
 use Rattle.history.specs.Samples.{start, x}
 use Rattle.services.specs.Kept.{stepOf, tablesOf, withClaims, soundb, answered, answeredWith, saidWith}
 use Rattle.services.specs.declared.Tables.{Tables}
@@ -104,6 +103,7 @@ use Rattle.impostors.specs.Samples.{ringOfTwo, behindAnother, sharedAhea
 use Rattle.impostors.specs.Parts.{lent, address, lastBest, incomplete}
 use Rattle.impostors.specs.Impostors.{byService}
 use Rattle.impostors.specs.Answers.{answerOf, answering, but, butServed, retelling, coding, reporting}
+use Rattle.impostors.proofs.OfSoundness.{Given, judged as soundBy, lengthsOnly}
 use Rattle.impostors.specs.Verdicts.{Judge, keepingOff, never110, firstOnly, twoBytes, inMinorToo, byName}
 use Rattle.impostors.specs.Verdicts.{unlessTest, after104, before101, deqKeepingOff, enqJudged, deqJudged}
 
@@ -173,9 +173,12 @@ sound-over-with-tasks =
     (tablesOf (record { over = true; code = 0; tasks = start .tasks; queue = []; ecbs = start .ecbs; areas = [] }), tt)
     refl tt (λ b. b) refl refl
 
--- an entry for a system name is let pass, where all else is sound
+-- an entry may be for a system name: of names only the lengths are looked at
+abbrev partsOf : Tables → Given
+partsOf t = (t .over, (t .code, (t .family, (t .queue, (t .events, (t .storage, tt))))))
+
 pub sound-with-a-system-name : RuledOut (λ k. fits-Tables ⊗ fits-end) sound.Pre sound.Post
-    (λ k a. soundb (a .0) || some forSystem (stepOf (a .0) .queue))
+    (λ k a. soundBy lengthsOnly (partsOf (a .0)))
 unfolding tables-open
 sound-with-a-system-name =
     wrong-at tt (tablesOf (withQueue start (entryFor 1 (exc sysdsn) ∷ [])), tt) refl tt (λ b. b) refl refl

@@ -14,7 +14,7 @@ use Rattle.kinds.specs.declared.tasks.Condition.{Condition}
 use Rattle.kinds.specs.declared.tasks.Condition.the-variants.{Free, Ready, EcbWait, Ended}
 use Rattle.kinds.specs.declared.tasks.MaybeEcb.{MaybeEcb}
 use Rattle.kinds.specs.declared.tasks.MaybeEcb.the-variants.{NoEcb, Named}
-use Rattle.rules.specs.Names.{legal}
+use Rattle.rules.specs.Names.{legal, isSystem}
 use Rattle.rules.specs.Control.{Entry}
 use Rattle.rules.specs.Steps.{Step, withTasks, withQueue, withEcbs, withAreas, withState, overStep}
 use Rattle.rules.specs.Family.{withPlace}
@@ -46,7 +46,7 @@ use Rattle.impostors.specs.Wrong.{RuledOut, wrong-at}
 use Rattle.impostors.specs.Samples.{task, ecb, after, oneDaughter, awaited}
 
 -- what `sound` is given, that it fits its types, and the step in it
-abbrev Given : Type 0
+abbrev pub Given : Type 0
 Given = Bool × (ℕ × (Family × (Queue × (Events × (Storage × Unit {0})))))
 
 abbrev takes : (k : Unit {0}) → Given → Bool
@@ -113,7 +113,7 @@ allBut zero (b ∷ l) = every (λ r. r) l
 allBut (suc n) (b ∷ l) = b && allBut n l
 
 -- packed tables, and a step judged in another way
-abbrev judged : (Step → Bool) → Given → Bool
+abbrev pub judged : (Step → Bool) → Given → Bool
 judged f a =
     packedEntries (a .1 .1 .1 .0)
     && (packedAreas (a .1 .1 .1 .1 .1 .0) && (sizesGood (stepIn a .tasks) (stepIn a .ecbs) && f (stepIn a)))
@@ -199,14 +199,17 @@ unfolding tables-open
 sound-with-two-entries-for-a-name =
     wrong-at tt (given (entries two (entryFor 1 (shr x) ∷ entryFor 1 (shr x) ∷ []))) refl tt (λ b. b) refl refl
 
--- a minor name may be empty
-pub sound-with-an-empty-name : RuledOut takes sound.Pre sound.Post (λ k a. judged (whileRunning 9) a)
+-- a minor name may be empty: of names it is only looked at whether they are the system's
+abbrev systemOnly : Step → Bool
+systemOnly s = whileRunning 9 s && every (λ (e : Entry). not (isSystem (e .name))) (s .queue)
+
+pub sound-with-an-empty-name : RuledOut takes sound.Pre sound.Post (λ k a. judged systemOnly a)
 unfolding tables-open
 sound-with-an-empty-name =
     wrong-at tt (given (entries two (entryFor 1 (exc (named 88 [])) ∷ []))) refl tt (λ b. b) refl refl
 
 -- an entry may be for a system name: of names only the lengths are looked at
-abbrev lengthsOnly : Step → Bool
+abbrev pub lengthsOnly : Step → Bool
 lengthsOnly s = whileRunning 9 s && every (λ (e : Entry). legal (e .name)) (s .queue)
 
 pub sound-with-a-system-name : RuledOut takes sound.Pre sound.Post (λ k a. judged lengthsOnly a)

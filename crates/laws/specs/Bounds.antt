@@ -2,7 +2,7 @@
 use mathlib.Core.Path.{_≡_, refl, sym, _∙_}
 use mathlib.Core.Bool.{Bool, true, false, true≢false}
 use mathlib.Core.List.{List, [], _∷_}
-use Prim.Native.Nat.{_≤_}
+use Prim.Native.Nat.{ℕ, _≤_}
 use native.Mathlib.Omega.{arith}
 use lib.ListN.{length}
 use borrow.Author.Tests.{leb-true}
@@ -26,9 +26,9 @@ pub record Bounded (s : Step) : Type 0 where
   pub names : entryNamesGood (s .queue) ≡ true
   pub areas : length (s .areas) ≤ mostAreas
 
-none-few : {A : Type 0} (l : List A) → none l ≡ true → length l ≤ mostEntries
-none-few [] h = omega arith
-none-few (x ∷ l) h = absurd (true≢false (sym h))
+none-few : {A : Type 0} (n : ℕ) (l : List A) → none l ≡ true → length l ≤ n
+none-few n [] h = omega arith
+none-few n (x ∷ l) h = absurd (true≢false (sym h))
 
 none-named : (q : List Entry) → none q ≡ true → entryNamesGood q ≡ true
 unfolding entryNamesGood
@@ -52,9 +52,9 @@ over-bounded s h =
     let d = both (none (s .queue)) _ (b .1) in
     let e = both (every zeroEcb (s .ecbs)) _ (d .1) in
     record {
-      queue = none-few (s .queue) (d .0);
+      queue = none-few mostEntries (s .queue) (d .0);
       names = none-named (s .queue) (d .0);
-      areas = none-few (s .areas) (e .1);
+      areas = none-few mostAreas (s .areas) (e .1);
     }
 
 pub sound-bounded : (s : Step) → Sound s → Bounded s

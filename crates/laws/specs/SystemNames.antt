@@ -1,12 +1,13 @@
 -- DOCUMENT 02 §2, as laws: ENQ keeps off the system's names, and no sound step holds one.
 use mathlib.Core.Path.{_≡_, refl, sym, ap, _∙_}
 use mathlib.Core.Bool.{Bool, true, false, not, _||_, and-false, false≢true}
-use mathlib.Core.List.{List, [], _∷_}
+use mathlib.Core.List.{List, [], _∷_, map}
 use Prim.Native.Nat.{ℕ}
 use lib.ListN.{length}
 use borrow.Author.Tests.{not-true}
 use Rattle.lists.specs.Lists.{every, some}
 use Rattle.lists.specs.Bools.{both, never, or-left, or-right}
+use Rattle.lists.specs.Every.{every-of, some-of}
 use Rattle.lists.specs.Pick.{pick-true, pick-false}
 use Rattle.kinds.specs.Replies.{refusalNumber, faultNumber}
 use Rattle.kinds.specs.declared.numbers.TaskNumber.{TaskNumber}
@@ -31,10 +32,14 @@ use Rattle.rules.specs.Serve.{Asked, serveOf, testsOf}
 use Rattle.laws.specs.Failing.{Sound}
 use Rattle.laws.specs.Bounds.{sound-bounded}
 use Rattle.laws.specs.SameNames.{name-eq}
+use Rattle.laws.specs.LawfulNames.{lawful-each}
 use Rattle.laws.specs.Decided.{decided}
 use Rattle.laws.specs.Tested.{SaidWhen, said-when, said-behind, others}
 use Rattle.laws.specs.Demanded.{demand-one}
 use Rattle.laws.specs.Formed.{own-answered, answered-own}
+
+abbrev nameIn : Entry → Resource
+nameIn e = e .name
 
 -- an entry for a system name
 abbrev pub forSystem : Entry → Bool
@@ -72,12 +77,11 @@ module _ (s : Step) (c : TaskNumber) (ret : Ret) (l : Names) (es : Ecbs) (area :
 -- "Sound tables hold no such name."
 
 lawful-free : (q : List Entry) → entryNamesGood q ≡ true → some forSystem q ≡ false
-unfolding entryNamesGood lawful
-lawful-free [] h = refl
-lawful-free (e ∷ q) h =
-    let b = both (lawful (e .name)) _ h in
-    let d = both (legal (e .name)) _ (b .0) in
-    rw (not-true (isSystem (e .name)) (d .1)) (lawful-free q (b .1))
+unfolding entryNamesGood
+lawful-free q h =
+    let ns = map nameIn q in
+    let k = sym (lawful-each ns) ∙ every-of nameIn lawful q ∙ h in
+    sym (some-of nameIn isSystem q) ∙ not-true _ (both (every legal ns) _ k .1)
 
 pub sound-no-system : (s : Step) → Sound s → some forSystem (s .queue) ≡ false
 sound-no-system s h = lawful-free (s .queue) (sound-bounded s h .names)

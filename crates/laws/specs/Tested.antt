@@ -53,7 +53,7 @@ unfolding gateOf
 gate-first s c ts =
     gate-by (s .over) (isLive (conditionOf (s .tasks) (c .0))) (waits (conditionOf (s .tasks) (c .0))) ts
 
--- A REFUSAL WHOSE TEST STANDS FIRST
+-- WHEN THE TESTS SAY A REFUSAL
 
 module _ (why : Refusal) where
   -- a test that says another number

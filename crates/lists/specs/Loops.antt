@@ -8,7 +8,8 @@ use lib.ListN.{length, getD, take}
 use lib.Seq.{slice}
 use borrow.Author.Tests.{not-true, not-false}
 use Rattle.lists.specs.Lists.{every, some}
-use Rattle.lists.specs.Every.{every-fails, every-goes, every-end, every-of, some-here, some-later, some-end}
+use Rattle.lists.specs.Every.{every-fails, every-goes, every-end, every-of, some-of, some-here, some-later}
+use Rattle.lists.specs.Every.{some-end}
 use Rattle.lists.specs.Keeping.{take-map}
 
 -- all pass
@@ -52,3 +53,8 @@ module _ {A : Type 0} {f : A → Bool} {l : List A} {i n : ℕ} (v : Any f l i n
 
     pub any-goes-on : b ≡ false → Any f l (i + 1) n
     any-goes-on e = record { left = v .left ∙ some-later f i n l d h k (sym t ∙ e) }
+
+-- some that the first n of an array show passes
+pub any-shown : {A B : Type 0} (view : A → B) (f : B → Bool) (n : ℕ) (l : List A)
+    → some (λ (x : A). f (view x)) (take n l) ≡ some f (take n (map view l))
+any-shown view f n l = sym (ap (some f) (take-map view n l) ∙ some-of view f (take n l))

@@ -1,13 +1,14 @@
 -- The names beside a request, as the loops over their array find them.
 use mathlib.Core.Path.{_≡_, sym, ap, _∙_}
-use mathlib.Core.Bool.{true}
+use mathlib.Core.Bool.{Bool, true}
 use mathlib.Core.List.{map, map-map}
 use Prim.Native.Nat.{ℕ, _≤_, _<_}
 use native.Mathlib.Omega.{arith}
 use lib.Dec.{eqb}
 use lib.ListN.{length, getD, take, length-map, List·getD-map}
 use lib.Seq.{getD-take, length-take-le}
-use Rattle.lists.specs.Lists.{every}
+use Rattle.lists.specs.Lists.{every, some}
+use Rattle.lists.specs.Loops.{all-shown, any-shown}
 use Rattle.lists.specs.Keeping.{take-map}
 use Rattle.lists.specs.Setting.{every-at}
 use Rattle.lists.specs.Bools.{both}
@@ -24,6 +25,15 @@ use Rattle.names.proofs.Shown.{shown-length}
 pub listed : (l : NameList) → namesOf (namesIn l) ≡ take (l .count) (map wantedName (l .names))
 listed l =
     sym (take-map nameOf (l .count) (map askOf (l .names))) ∙ ap (take (l .count)) (map-map nameOf askOf (l .names))
+
+-- a test of each name within the count, as a loop over the array makes it
+pub every-listed : (f : Resource → Bool) (l : NameList)
+    → every (λ (w : Wanted). f (wantedName w)) (take (l .count) (l .names)) ≡ every f (namesOf (namesIn l))
+every-listed f l = all-shown wantedName f (l .count) (l .names) ∙ ap (every f) (sym (listed l))
+
+pub some-listed : (f : Resource → Bool) (l : NameList)
+    → some (λ (w : Wanted). f (wantedName w)) (take (l .count) (l .names)) ≡ some f (namesOf (namesIn l))
+some-listed f l = any-shown wantedName f (l .count) (l .names) ∙ ap (some f) (sym (listed l))
 
 -- a good count
 pub count-few : (n : ℕ) → countGood n ≡ true → n ≤ longestList

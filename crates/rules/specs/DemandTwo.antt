@@ -51,7 +51,7 @@ pub record Answers (T : Type 0) (l : List Area) (a : Area) (conditional : Bool) 
 -- what is promised of an answer r to a request a on tables that stand for the step s, are sound or not as `sound`
 -- tells, and keep a step as `kept` says
 module _ (T : Type 0) (sound : Bool) (s : Step) (kept : Step → T) (a : Asked) (r : Served T) where
-  -- what document 01 says
+  -- what document 01 says, with what has landed of document 02
   abbrev pub ruled : Served Step
   ruled = serviceOf s (a .request) (a .names) (a .ecbs) (a .area)
 

@@ -42,8 +42,8 @@ use Rattle.rules.specs.Reading.{climbs, endsWith}
 
 unfoldable pub rules-open : Unit {0}
 unfolding pick between dpmodGood legal isSystem lawful namesGood asksSystem granted available control bars waitsFor
-    leadsBy stuck overStep
-    place used mother chain below isSubtaskOf waitAt ecbsGood wordOf onePostFewer unwaited bitsLeft woken signalled
+    leadsBy stuck overStep place used mother chain below isSubtaskOf waitAt ecbsGood wordOf onePostFewer unwaited
+    bitsLeft woken signalled
     endAt areaStays waiterStays leftBy detached ended failing admitted gateOf openGate through settled begunWith
     freshGood freshOf heldTo newDispatching attachGood attachVerdict newTask attachDone detachGood detachVerdict
     detachDone endGood endVerdict endDone abendVerdict abendDone coded writtenOn tooShort enqCode tooFewFree enqGood

@@ -32,8 +32,8 @@ sysiea01 = beginning (0xE2 ∷ 0xE8 ∷ 0xE2 ∷ 0xC9 ∷ 0xC5 ∷ 0xC1 ∷ 0xF0
 abbrev pub sysdsnWith : List ℕ → Resource
 sysdsnWith minor = record { major = sysdsn .major; minor = minor }
 
--- alone, last of three, in the middle and last of sixteen, under every RET kind, by any task, of an empty queue too;
--- whatever follows the three bytes
+-- alone and last of three, under every RET kind; in the middle, two of them, last of sixteen; by any task, of an empty
+-- queue too; whatever follows the three bytes
 abbrev asked : List Line
 asked =
     enq 1 Use 1 (shr sysdsn ∷ []) refused 110
@@ -59,8 +59,8 @@ asked =
     ∷ []
 
 -- 108, 102, 103 and 101 go before 110; 104 and 201 come after it
-abbrev inOrder : List Line
-inOrder =
+abbrev inTurn : List Line
+inTurn =
     attach 1 0 (pos 0) NoEcb gives 2
     ∷ enq 1 None 0 (exc x ∷ []) gives 0
     ∷ enq 1 None 0 (exc (sysdsnWith []) ∷ []) refused 101
@@ -116,8 +116,8 @@ near =
 
 -- DEQ knows no 110: nobody has an entry for such a name, so HAVE gives 8 and releases the others, NONE is 202 and ends
 -- the caller, and 104 is what it was
-abbrev released : List Line
-released =
+abbrev givenBack : List Line
+givenBack =
     attach 1 0 (pos 0) (ecb 5) gives 2
     ∷ enq 2 None 0 (exc x ∷ exc y ∷ []) gives 0
     ∷ (enq 1 None 0 (shr y ∷ []) ⇒ 0 ∣ 0 ∣ [] ∣ Is 1 ResourceWait ∷ [])
@@ -136,7 +136,7 @@ threeEntries =
     ∷ enq 2 None 0 (exc z ∷ []) gives 0
     ∷ []
 
--- the name of the entry behind n others overwritten
+-- the name of the entry behind k others becomes n
 abbrev renamed : ℕ → Resource → List Entry → List Entry
 renamed k n [] = []
 renamed zero n (e ∷ q) = record { task = e .task; exclusive = e .exclusive; name = n } ∷ q
@@ -151,9 +151,9 @@ spoils = renaming 0 sysdsn ∷ renaming 1 sysiea01 ∷ renaming 2 sysdsn ∷ []
 abbrev pub systemCases : List Case
 systemCases =
     case (freshOf 200 150) asked
-    ∷ case (freshOf 200 150) inOrder
+    ∷ case (freshOf 200 150) inTurn
     ∷ case (done fullQueue) whereFull
     ∷ case (freshOf 200 150) near
-    ∷ case (freshOf 200 150) released
+    ∷ case (freshOf 200 150) givenBack
     ∷ record { start = freshOf 200 150; answer = 0; lines = threeEntries; spoils = spoils }
     ∷ []

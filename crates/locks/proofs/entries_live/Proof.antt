@@ -1,35 +1,34 @@
 -- All entries are of live tasks just where those from i on are (invariant); entries left to look at fall (measure).
 use Prim.Native.Nat.{_≤_, _-_}
-use mathlib.Core.Path.{_≡_, refl, sym, _∙_}
-use mathlib.Core.List.{map}
-use native.Mathlib.Nat.{le-antisymm}
+use mathlib.Core.Path.{_∙_}
+use mathlib.Core.Bool.{Bool}
+use mathlib.Core.List.{List}
 use native.Mathlib.Omega.{arith}
 use borrow.Author.Needs.{needs}
 use lib.ListN.{length}
-use lib.Seq.{slice}
-use Rattle.lists.specs.Lists.{every}
 use Rattle.lists.specs.Arrays.{within}
-use Rattle.lists.specs.Pick.{test-held-not, test-failed-not}
-use Rattle.lists.specs.Every.{every-end, all-fails, all-goes}
-use Rattle.queue.specs.Queues.{entryOf, entriesIn}
+use Rattle.lists.specs.Loops.{All, all-start, all-stops, all-goes-on, all-over, all-shown}
+use Rattle.kinds.specs.declared.names.Slot.{Slot}
+use Rattle.kinds.specs.declared.tasks.Task.{Task}
+use Rattle.queue.specs.Queues.{entryOf}
 use Rattle.rules.specs.Family.{live as liveTask}
 use Rattle.rules.specs.Control.{Entry}
 use Rattle.rules.specs.SoundQueue.{entriesLive}
 use Rattle.locks.proofs.entries_live.Statement.{statement}
 use Rattle.locks.proofs.entries_live.Tie as tie
 
+abbrev ofLive : List Task → Entry → Bool
+ofLive ts e = liveTask ts (e .task)
+
 abbrev Inv-loop : tie.InvT-loop
 Inv-loop f q n i₀ i =
-    (entriesLive (f .places) (entriesIn q)
-    ≡ every (λ (e : Entry). liveTask (f .places) (e .task)) (slice i n (map entryOf (q .slots))))
-    × ((i ≤ n) × (n ≤ length (q .slots)))
+    (i ≤ n) × (n ≤ length (q .slots)) × All (λ (s : Slot). ofLive (f .places) (entryOf s)) (q .slots) i n
 
 abbrev μ-loop : tie.MeasureT-loop
 μ-loop f q n i₀ i = n - i
 
 loop-holds : tie.Need-loop-holds Inv-loop μ-loop
-unfolding entriesLive
-loop-holds c = (refl, search (needs, within))
+loop-holds c = (omega arith, search (needs, within), all-start)
 
 mul-x : tie.Need-mul-x Inv-loop μ-loop
 mul-x c = omega arith
@@ -41,9 +40,12 @@ is-live-requires : tie.Need-is-live-requires Inv-loop μ-loop
 is-live-requires c κs = search needs
 
 returns : tie.Need-returns Inv-loop μ-loop
+unfolding entriesLive
 returns c =
-    let h = test-failed-not _ _ (c .before .is-live .ensures) (c .if1 .taken) in
-    sym (c .before .before .before .before .before .loop .inv .0 ∙ search (needs, all-fails entryOf))
+    let t = c .before .before .before .before .before in
+    let a = t .before .args in
+    all-stops (t .loop .inv .2) (omega arith) (omega arith) _ (c .before .is-live .ensures) (c .if1 .taken)
+    ∙ all-shown entryOf (ofLive (a .f .places)) (a .t1 .count) (a .t1 .slots)
 
 add-i : tie.Need-add-i Inv-loop μ-loop
 add-i c = omega arith
@@ -53,11 +55,16 @@ loop-less c = omega arith
 
 loop-again : tie.Need-loop-again Inv-loop μ-loop
 loop-again c =
-    let h = test-held-not _ _ (c .before .is-live .ensures) (c .if1 .left) in
-    (c .before .before .before .before .before .loop .inv .0 ∙ search (needs, all-goes entryOf), omega arith)
+    let v = c .before .before .before .before .before .loop .inv .2 in
+    let e = all-goes-on v (omega arith) (omega arith) _ (c .before .is-live .ensures) (c .if1 .left) in
+    (omega arith, omega arith, e)
 
 returns-2 : tie.Need-returns-2 Inv-loop μ-loop
-returns-2 c = sym (c .before .loop .inv .0 ∙ search (needs, every-end, le-antisymm))
+unfolding entriesLive
+returns-2 c =
+    let a = c .before .before .args in
+    all-over (c .before .loop .inv .2) (omega arith)
+    ∙ all-shown entryOf (ofLive (a .f .places)) (a .t1 .count) (a .t1 .slots)
 
 pub entries-live-spec : {M : Type 1} → statement M
 entries-live-spec =

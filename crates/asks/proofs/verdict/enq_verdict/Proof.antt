@@ -1,4 +1,5 @@
 -- Each return cites the contracts of the tests made so far; where the first was passed the count is within the array.
+-- Behind four tests and more a search takes up more lemmas than it may without being told (`fits`).
 use Prim.Native.Nat.{_≤_}
 use borrow.Author.Needs.{needs}
 use native.Mathlib.Omega.{arith}

@@ -1,20 +1,20 @@
 -- What going on says lets the codes be written; the three calls give the fields of the answer.
 use borrow.Author.Needs.{needs}
 use Rattle.names.proofs.Listed.{good-count}
-use Rattle.claims.proofs.Coding.{deq-go}
+use Rattle.laws.specs.Passed.{deq-passed}
 use Rattle.claims.proofs.deq.goes_on.Statement.{statement}
 use Rattle.claims.proofs.deq.goes_on.Tie as tie
 
 write-codes-requires : tie.Need-write-codes-requires
 write-codes-requires c κs =
     let p = c .before .before .pre in
-    let g = deq-go _ _ _ _ _ (p .1) in
-    ((p .0 .0 .room, good-count _ (g .0)), g .1)
+    let g = deq-passed _ _ _ _ _ (p .1) in
+    ((p .0 .0 .room, good-count _ (g .good)), g .coded)
 
 released-requires : tie.Need-released-requires
 released-requires c κs =
     let p = c .before .before .before .before .before .pre in
-    (p .0, good-count _ (deq-go _ _ _ _ _ (p .1) .0))
+    (p .0, good-count _ (deq-passed _ _ _ _ _ (p .1) .good))
 
 reply-to-requires : tie.Need-reply-to-requires
 reply-to-requires c κs = search needs

@@ -4,7 +4,8 @@ use borrow.Author.Tests.{not-true, not-false}
 use borrow.Author.Needs.{needs}
 use Rattle.lists.specs.Pick.{pick}
 use Rattle.names.proofs.Listed.{good-count}
-use Rattle.laws.specs.EnqPassed.{enq-passed}
+use Rattle.laws.specs.InRange.{enq-names}
+use Rattle.laws.specs.Passed.{enq-passed}
 use Rattle.claims.proofs.enq.goes_on.Statement.{statement}
 use Rattle.claims.proofs.enq.goes_on.Tie as tie
 
@@ -12,7 +13,7 @@ write-codes-requires : tie.Need-write-codes-requires
 write-codes-requires c κs =
     let p = c .before .before .pre in
     let g = enq-passed _ _ _ _ _ (p .1) in
-    ((p .0 .0 .room, good-count _ (g .good)), g .coded)
+    ((p .0 .0 .room, good-count _ (enq-names _ _ (g .good))), g .coded)
 
 same-length : tie.Need-same-length
 same-length c = search needs
@@ -29,7 +30,7 @@ change-requires c κs =
     let p = k .before .before .before .pre in
     let g = enq-passed _ _ _ _ _ (p .1) in
     let z = sym (k .write-codes .ensures .0) ∙ not-false _ (c .if1 .left) in
-    (p .0, record { good = g .good; room = g .room; zero = z })
+    (p .0, record { good = enq-names _ _ (g .good); room = g .room; zero = z })
 
 same-length-2 : tie.Need-same-length-2
 same-length-2 c = search needs

@@ -48,8 +48,8 @@ use Rattle.impostors.specs.Opened.{tables-open}
 use Rattle.impostors.specs.Samples.{task, namesOf}
 use Rattle.impostors.specs.Wrong.{RuledOut, wrong-at, RuledOutWith, wrong-with}
 use Rattle.impostors.specs.Parts.{ownerAndWaiter, lent, verdictNumber}
-use Rattle.impostors.specs.Verdicts.{Judge, bad, system, short, keepingOff, firstOnly, twoBytes, inMinorToo}
-use Rattle.impostors.specs.Verdicts.{byName, unlessTest, after104, before101, deqKeepingOff}
+use Rattle.impostors.specs.Verdicts.{Judge, bad, system, short, afterCodes, keepingOff, firstOnly, twoBytes}
+use Rattle.impostors.specs.Verdicts.{inMinorToo, byName, unlessTest, after104, before101, deqKeepingOff}
 
 -- the code behind n others
 abbrev code : ℕ → Codes → ℕ
@@ -205,9 +205,7 @@ shortFirst q c ret l room =
     (short (enqCodesDue ret) room l
     ∷ bad (enqGood ret l)
     ∷ system (asksSystem l)
-    ∷ fail DuplicateEnq (duplicated ret q c l)
-    ∷ refuse NoEntryFree (tooFewFree ret q c l)
-    ∷ [])
+    ∷ afterCodes q c ret l)
 
 -- CHNG asks for x shared, with no codes area
 pub enq-verdict-104-before-101 : RuledOut (λ k. fits-Asks fits-Ret) enq-verdict.Pre enq-verdict.Post

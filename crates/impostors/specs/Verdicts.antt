@@ -36,6 +36,10 @@ system asks = refuse SystemName asks
 abbrev pub short : Bool → ℕ → Names → Check
 short due room l = refuse ShortArea (due && tooShort room l)
 
+-- ENQ's last two, 201 and 105
+abbrev pub afterCodes : List Entry → ℕ → Ret → Names → List Check
+afterCodes q c ret l = fail DuplicateEnq (duplicated ret q c l) ∷ refuse NoEntryFree (tooFewFree ret q c l) ∷ []
+
 -- SYSTEM NAMES, document 02 §2
 
 -- another test for 110
@@ -45,9 +49,7 @@ keepingOff asks q c ret l room =
     (bad (enqGood ret l)
     ∷ system (asks ret l)
     ∷ short (enqCodesDue ret) room l
-    ∷ fail DuplicateEnq (duplicated ret q c l)
-    ∷ refuse NoEntryFree (tooFewFree ret q c l)
-    ∷ [])
+    ∷ afterCodes q c ret l)
 
 -- there is none
 abbrev pub never110 : Ret → Names → Bool
@@ -84,9 +86,7 @@ after104 q c ret l room =
     (bad (enqGood ret l)
     ∷ short (enqCodesDue ret) room l
     ∷ system (asksSystem l)
-    ∷ fail DuplicateEnq (duplicated ret q c l)
-    ∷ refuse NoEntryFree (tooFewFree ret q c l)
-    ∷ [])
+    ∷ afterCodes q c ret l)
 
 -- 110 goes before 101
 abbrev pub before101 : Judge Ret
@@ -95,9 +95,7 @@ before101 q c ret l room =
     (system (asksSystem l)
     ∷ bad (enqGood ret l)
     ∷ short (enqCodesDue ret) room l
-    ∷ fail DuplicateEnq (duplicated ret q c l)
-    ∷ refuse NoEntryFree (tooFewFree ret q c l)
-    ∷ [])
+    ∷ afterCodes q c ret l)
 
 -- DEQ refuses it too
 abbrev pub deqKeepingOff : Judge DeqRet

@@ -15,7 +15,7 @@ use Rattle.kinds.specs.declared.requests.Request.the-variants.{Enq, Deq}
 use Rattle.kinds.specs.declared.requests.Ret.{Ret}
 use Rattle.kinds.specs.declared.requests.DeqRet.{DeqRet}
 use Rattle.kinds.specs.declared.requests.DeqRet.the-variants.{None, Have}
-use Rattle.kinds.specs.declared.replies.Refusal.the-variants.{OutOfRange, SystemName}
+use Rattle.kinds.specs.declared.replies.Refusal.the-variants.{Unsound, OutOfRange, SystemName}
 use Rattle.kinds.specs.declared.replies.Fault.the-variants.{DeqWithoutEntry}
 use Rattle.kinds.specs.declared.replies.Gate.the-variants.{Open}
 use Rattle.rules.specs.Tests.{refuse}
@@ -28,6 +28,7 @@ use Rattle.rules.specs.Admission.{gateOf}
 use Rattle.rules.specs.Enq.{enqGood, enqTests}
 use Rattle.rules.specs.Deq.{deqCode}
 use Rattle.rules.specs.SoundQueue.{entryNamesGood}
+use Rattle.rules.specs.Sound.{soundStep}
 use Rattle.rules.specs.Serve.{Asked, serveOf, testsOf}
 use Rattle.laws.specs.Failing.{Sound}
 use Rattle.laws.specs.Bounds.{sound-bounded}
@@ -49,7 +50,7 @@ forSystem e = isSystem (e .name)
 abbrev pub enqAsked : TaskNumber → Ret → Names → Ecbs → List ℕ → Asked
 enqAsked c ret l es area = record { request = Enq c ret; names = l; ecbs = es; area = area }
 
-abbrev deqAsked : TaskNumber → DeqRet → Names → Ecbs → List ℕ → Asked
+abbrev pub deqAsked : TaskNumber → DeqRet → Names → Ecbs → List ℕ → Asked
 deqAsked c ret l es area = record { request = Deq c ret; names = l; ecbs = es; area = area }
 
 -- "ENQ refuses with 110 any list with a major name whose first three bytes are hexadecimal E2 E8 E2. The test comes
@@ -85,6 +86,16 @@ lawful-free q h =
 
 pub sound-no-system : (s : Step) → Sound s → some forSystem (s .queue) ≡ false
 sound-no-system s h = lawful-free (s .queue) (sound-bounded s h .names)
+
+-- so a step with an entry for one answers 100 to every request
+pub system-unsound : (s : Step) (a : Asked) → some forSystem (s .queue) ≡ true
+    → serveOf s a ≡ untouched (a .area) (refused Unsound s)
+unfolding serveOf
+system-unsound s a y = one (soundStep s) refl
+  where
+    one : (b : Bool) → soundStep s ≡ b → serveOf s a ≡ untouched (a .area) (refused Unsound s)
+    one true h = absurd (never _ y (sound-no-system s h))
+    one false h = pick-false (soundStep s) _ _ h
 
 -- "DEQ isn't changed.": it never answers 110, on any step; and on a sound one nobody has an entry for a system name, so
 -- HAVE gives 8 and NONE is 202

@@ -31,7 +31,7 @@ module _ (t : Tables) (a : Asked) where
   unfolding servedOf answeredWith
   sound-serves h = pick-true (soundb t) _ _ h
 
-  unsound-serves : soundb t ≡ false → servedOf t a ≡ untouched (a .area) (refused Unsound t)
+  pub unsound-serves : soundb t ≡ false → servedOf t a ≡ untouched (a .area) (refused Unsound t)
   unfolding servedOf answeredWith
   unsound-serves h = pick-false (soundb t) _ _ h
 

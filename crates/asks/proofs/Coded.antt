@@ -1,15 +1,18 @@
 -- The codes of the names beside a request, from the flags of each.
 use mathlib.Core.Path.{_≡_, refl, sym, ap, _∙_}
-use mathlib.Core.Bool.{Bool, true, false}
-use mathlib.Core.List.{List, [], map, map-map}
-use Prim.Native.Nat.{ℕ, _+_, _≤_, _<_}
+use mathlib.Core.Bool.{Bool, true, false, not, Bool·not-not}
+use mathlib.Core.List.{List, [], _++_, map, map-map, map-append}
+use Prim.Native.Nat.{ℕ, _+_, _-_, _≤_, _<_}
 use native.Mathlib.Omega.{arith}
 use native.Mathlib.Nat.{zero-add}
-use lib.ListN.{length, getD, take, set, replicate, length-map, List·getD-map}
+use lib.Dec.{eqb}
+use lib.ListN.{length, getD, take, set, replicate, length-map, drop-of-length-le, List·getD-map}
 use lib.Seq.{getD-take}
-use Rattle.lists.specs.Lists.{numbers}
+use Rattle.lists.specs.Lists.{numbers, keep, unskipped}
 use Rattle.lists.specs.Pick.{pick}
-use Rattle.lists.specs.Tables.{padded}
+use Rattle.lists.specs.Tables.{padded, padded-eq}
+use Rattle.lists.specs.Keeping.{keep-same, take-map}
+use Rattle.lists.specs.Skipping.{unskipped-flags}
 use Rattle.lists.specs.Numbered.{length-numbers}
 use Rattle.lists.specs.Filling.{number-at, by-number}
 use Rattle.kinds.specs.Limits.{longestList}
@@ -24,8 +27,10 @@ use Rattle.rules.specs.Names.{Resource, Ask, nameOf, namesOf}
 use Rattle.rules.specs.Control.{Entry, hasEntry, available, soleOwner}
 use Rattle.rules.specs.Enq.{enqCode, enqCodes}
 use Rattle.rules.specs.Deq.{deqCode, deqCodes}
+use Rattle.laws.specs.Among.{eqb-swap}
 use Rattle.flags.specs.Flagging.{flagsOf}
-use Rattle.asks.specs.Coding.{codesOf, codes-front, queuingCode, changeCode, releaseCode, enqCodeBy, deqCodeBy}
+use Rattle.asks.specs.Coding.{codesOf, nonzero, codes-front}
+use Rattle.asks.specs.Coding.{queuingCode, changeCode, releaseCode, enqCodeBy, deqCodeBy}
 use Rattle.flags.specs.declared.Flags.{Flags}
 use Rattle.asks.specs.declared.codes.Codes.{Codes}
 use Rattle.flags.proofs.Filled.{Filled, none-filled, filled-next, filled-all}
@@ -149,3 +154,56 @@ module _ (q : List Entry) (c : ℕ) (l : NameList) (h : l .count ≤ length (l .
   deq-front ret =
       codes-front _ (l .count)
       (length-map (namesOf (namesIn l)) (deqCode ret q c) ∙ length-map (namesIn l .asks) nameOf ∙ asks-length l h)
+
+-- a code other than 0 has its flag set
+abbrev flagged : ℕ → Bool
+flagged b = not (eqb 0 b)
+
+-- a flag for each code, the first i of them written
+abbrev pub FlaggedTo : Codes → ℕ → List Bool → Type 0
+FlaggedTo k i r = Filled false flagged (k .bytes) i r
+
+module _ (k : Codes) where
+  pub no-flags : FlaggedTo k 0 (replicate longestList false)
+  no-flags = none-filled false flagged (k .bytes)
+
+  module _ (n : length (k .bytes) ≡ longestList) where
+    pub flag-next : (i d : ℕ) (r : List Bool) → i < longestList → FlaggedTo k i r
+        → FlaggedTo k (i + 1) (set r i (not (eqb (getD (k .bytes) i d) 0)))
+    flag-next i d r h v =
+        let e = ap not (eqb-swap 0 (getD (k .bytes) i d)) in
+        filled-next false flagged (k .bytes) i d r _ h (omega arith) e v
+
+    pub flags-nonzero : (i : ℕ) (r : Flags) → i ≡ longestList → FlaggedTo k i (r .of) → r ≡ nonzero k
+    unfolding nonzero
+    flags-nonzero i r e v = λ t. record { of = so t }
+      where
+        long : length (map flagged (k .bytes)) ≡ longestList
+        long = length-map (k .bytes) flagged ∙ n
+
+        so : r .of ≡ map flagged (k .bytes)
+        so =
+            filled-all false flagged (k .bytes) i longestList (r .of) e v
+            ∙ ap (padded longestList false) (sym (take-map flagged longestList (k .bytes)))
+            ∙ padded-eq longestList false (map flagged (k .bytes)) longestList long (omega arith)
+            (drop-of-length-le (map flagged (k .bytes)) {i = longestList} (omega (arith, long)))
+
+-- the names that are not skipped are those with code 0
+module _ (ret : Ret) (q : List Entry) (c : ℕ) (l : NameList) where
+  abbrev flag : Ask → Bool
+  flag a = flagged (enqCode ret q c a)
+
+  pub unskipped-zero : (k : Codes) → k ≡ codesOf (enqCodes ret q c (namesIn l))
+      → unskipped (nonzero k .of) (namesIn l .asks) ≡ keep (λ (a : Ask). eqb 0 (enqCode ret q c a)) (namesIn l .asks)
+  unfolding codesOf nonzero padded
+  unskipped-zero k e =
+      let asks = namesIn l .asks in
+      let codes = enqCodes ret q c (namesIn l) in
+      let behind = replicate {A = ℕ} (longestList - length codes) 0 in
+      let rest = map flagged behind in
+      ap (λ (x : Codes). unskipped (nonzero x .of) asks) e
+      ∙ ap (λ (m : List Bool). unskipped m asks) (map-append flagged codes behind)
+      ∙ ap (λ (m : List Bool). unskipped (m ++ rest) asks) (map-map flagged (enqCode ret q c) asks)
+      ∙ unskipped-flags flag rest asks
+      ∙ keep-same (λ (a : Ask). not (flag a)) (λ (a : Ask). eqb 0 (enqCode ret q c a)) asks
+      (λ a. Bool·not-not (eqb 0 (enqCode ret q c a)))

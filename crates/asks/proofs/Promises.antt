@@ -7,6 +7,7 @@ use Rattle.asks.proofs.codes.deq_codes_due.Reads as deq-codes-due
 use Rattle.asks.proofs.codes.enq_codes.Reads as enq-codes
 use Rattle.asks.proofs.codes.deq_codes.Reads as deq-codes
 use Rattle.asks.proofs.codes.all_zero.Reads as all-zero
+use Rattle.asks.proofs.codes.skipped.Reads as skipped
 use Rattle.asks.proofs.codes.write.Reads as write
 use Rattle.asks.proofs.verdict.enq_verdict.Reads as enq-verdict
 use Rattle.asks.proofs.verdict.deq_verdict.Reads as deq-verdict
@@ -25,6 +26,9 @@ deq-codes-once k a x y e d p q = p ∙ sym q
 
 pub all-zero-once : Once all-zero.Post
 all-zero-once k a x y e d p q = p ∙ sym q
+
+pub skipped-once : Once skipped.Post
+skipped-once k a x y e d p q = p ∙ sym q
 
 pub write-once : OnceWith write.Post (λ k e. now (e .1 .1 .0))
 write-once k a x y e d p q = (refl, p ∙ sym q)

@@ -1,8 +1,9 @@
 -- The codes of the names beside a request, by what the queue says of each name.
 use mathlib.Core.Path.{_≡_, sym, ap, _∙_}
-use mathlib.Core.Bool.{Bool, true, false}
-use mathlib.Core.List.{List}
+use mathlib.Core.Bool.{Bool, true, false, not}
+use mathlib.Core.List.{List, map}
 use Prim.Native.Nat.{ℕ}
+use lib.Dec.{eqb}
 use lib.ListN.{length, take}
 use Rattle.lists.specs.Tables.{padded, padded-take}
 use Rattle.kinds.specs.Limits.{longestList}
@@ -10,11 +11,16 @@ use Rattle.kinds.specs.declared.requests.Ret.{Ret}
 use Rattle.kinds.specs.declared.requests.Ret.the-variants.{None, Test, Use, Have, Chng}
 use Rattle.kinds.specs.declared.requests.DeqRet.{DeqRet}
 use Rattle.kinds.specs.declared.requests.DeqRet.the-variants.{None as DeqNone, Have as DeqHave}
+use Rattle.flags.specs.declared.Flags.{Flags}
 use Rattle.asks.specs.declared.codes.Codes.{Codes}
 
 -- the code of the first name stands at place 0, and so on; zero past the count
 unfoldable pub codesOf : List ℕ → Codes
 codesOf l = record { bytes = padded longestList 0 l }
+
+-- a flag for each code: it is other than 0
+unfoldable pub nonzero : Codes → Flags
+nonzero k = record { of = map (λ (b : ℕ). not (eqb 0 b)) (k .bytes) }
 
 -- the codes are at the front
 pub codes-front : (l : List ℕ) (n : ℕ) → length l ≡ n → take n (codesOf l .bytes) ≡ l

@@ -1,4 +1,5 @@
 // The codes of ENQ and DEQ: a byte for each name beside a request.
+use flags::Flags;
 use flags::available;
 use flags::entered;
 use flags::lead::sole;
@@ -16,7 +17,7 @@ ghost use Rattle.rules.specs.Codes.{allZero, writtenOn};
 ghost use Rattle.rules.specs.Enq.{enqCodes, enqCodesDue};
 ghost use Rattle.rules.specs.Deq.{deqCodes, deqCodesDue};
 ghost use Rattle.queue.specs.Queues.{entriesIn};
-ghost use Rattle.asks.specs.Coding.{codesOf, queuingCode, changeCode, releaseCode, enqCodeBy, deqCodeBy};
+ghost use Rattle.asks.specs.Coding.{codesOf, nonzero, queuingCode, changeCode, releaseCode, enqCodeBy, deqCodeBy};
 
 // Zero past the count.
 pub struct Codes {
@@ -158,6 +159,22 @@ pub fn all_zero(k: Codes, n: u32) -> bool
         i += 1;
     }
     true
+}
+
+// The names with a code other than 0, which are skipped.
+pub fn skipped(k: Codes) -> Flags
+    ensures { λ r. ⌜ r ≡ nonzero k ⌝ }
+{
+    let mut r = Flags {
+        of: [false; NameList::MOST],
+    };
+    let mut i = 0;
+    while i < NameList::MOST {
+        let b = k.bytes[i];
+        r.of[i] = b != 0;
+        i += 1;
+    }
+    r
 }
 
 // The first n codes, at the front of the area and nowhere else.

@@ -1,4 +1,5 @@
 // What ENQ's and DEQ's own tests say, in the paper's order, before anything changes.
+use crate::codes::Codes;
 use crate::codes::all_zero;
 use crate::codes::deq_codes_due;
 use crate::codes::enq_codes;
@@ -21,10 +22,13 @@ use queue::Queue;
 ghost use mathlib.Core.Path.{_≡_};
 ghost use mathlib.Core.Bool.{_&&_};
 ghost use Prim.Native.Nat.{_≤_};
+ghost use lib.Dec.{eqb};
+ghost use lib.ListN.{length, take};
+ghost use Rattle.lists.specs.Lists.{howMany};
 ghost use Rattle.kinds.specs.Limits.{mostEntries, longestList};
 ghost use Rattle.names.specs.Named.{namesIn};
 ghost use Rattle.rules.specs.Codes.{tooShort};
-ghost use Rattle.rules.specs.Enq.{queuesAll, duplicated as duplicatedOf, enqCodesDue, tooFewFree, enqGood, enqVerdict};
+ghost use Rattle.rules.specs.Enq.{duplicated as duplicatedOf, enqCodesDue, toQueue, tooFewFree, enqGood, enqVerdict};
 ghost use Rattle.rules.specs.Deq.{unentered as unenteredOf, deqCodesDue, deqVerdict};
 ghost use Rattle.queue.specs.Queues.{entriesIn};
 
@@ -53,15 +57,41 @@ fn unentered(q: Queue, caller: TaskNumber, ret: DeqRet, l: NameList) -> bool
     }
 }
 
-fn queues_all(ret: Ret) -> bool
-    ensures { λ r. ⌜ r ≡ queuesAll ret ⌝ }
+// How many of the first n codes are 0.
+fn zeros(k: Codes, n: u32) -> usize
+    requires { ⌜ n ≤ longestList ⌝ }
+    ensures { λ r. ⌜ r ≡ howMany (eqb 0) (take n (k .bytes)) ⌝ }
 {
+    let m = n as usize;
+    let mut count: usize = 0;
+    let mut i = 0;
+    while i < m {
+        let b = k.bytes[i];
+        if b == 0 {
+            count += 1;
+        }
+        i += 1;
+    }
+    count
+}
+
+// How many names are to be queued. Codes are found only where they decide it.
+fn to_queue(q: Queue, caller: TaskNumber, ret: Ret, l: NameList) -> usize
+    requires { ⌜ (q .count ≤ mostEntries) × (l .count ≤ longestList) ⌝ }
+    ensures { λ r. ⌜ r ≡ length (toQueue ret (entriesIn q) (caller .0) (namesIn l)) ⌝ }
+{
+    let n = l.count as usize;
     match ret {
-        Ret::None => true,
-        Ret::Test => false,
-        Ret::Use => true,
-        Ret::Have => true,
-        Ret::Chng => false,
+        Ret::None => n,
+        Ret::Test => 0,
+        Ret::Use => {
+            if all_zero(enq_codes(q, caller, ret, l), l.count) {
+                return n;
+            }
+            0
+        }
+        Ret::Have => zeros(enq_codes(q, caller, ret, l), l.count),
+        Ret::Chng => 0,
     }
 }
 
@@ -74,11 +104,8 @@ fn too_few_free(q: Queue, caller: TaskNumber, ret: Ret, l: NameList) -> bool
     if q.count + n <= Slot::PLACES {
         return false;
     }
-    if !queues_all(ret) {
-        return false;
-    }
-    let k = enq_codes(q, caller, ret, l);
-    all_zero(k, l.count)
+    let m = to_queue(q, caller, ret, l);
+    (0 < m) & (Slot::PLACES < q.count + m)
 }
 
 // 101, ENQ. Only of a good list are the modes looked at.

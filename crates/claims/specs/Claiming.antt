@@ -5,6 +5,7 @@ use mathlib.Core.List.{List, map}
 use Prim.Native.Nat.{ℕ}
 use lib.ListN.{length}
 use Rattle.lists.specs.Pick.{pick}
+use Rattle.lists.specs.Lists.{unskipped}
 use Rattle.kinds.specs.declared.numbers.TaskNumber.{TaskNumber}
 use Rattle.kinds.specs.declared.replies.Gate.the-variants.{Open}
 use Rattle.kinds.specs.declared.replies.Reply.{Reply}
@@ -22,12 +23,14 @@ use Rattle.rules.specs.Steps.{Step, withTasks, withQueue}
 use Rattle.rules.specs.ResourceWaits.{waitsBy}
 use Rattle.rules.specs.Admission.{gateOf, onGo, codesThrough}
 use Rattle.rules.specs.Deq.{deqCodes, deqVerdict, released, deqWritten}
-use Rattle.rules.specs.Enq.{enqCodes, tooFewFree, enqVerdict, withTail, madeExclusive, enqWritten}
+use Rattle.rules.specs.Enq.{enqCodes, toQueue, tooFewFree, enqVerdict, withTail, madeExclusive, enqWritten}
 use Rattle.laws.specs.Running.{Running}
+use Rattle.laws.specs.ToQueue.{zeroCoded}
 use Rattle.family.specs.Families.{familyOf}
 use Rattle.family.specs.declared.Family.{Family}
 use Rattle.queue.specs.Queues.{entriesIn, storedEntries, PackedEntries}
 use Rattle.queue.specs.declared.Queue.{Queue}
+use Rattle.flags.specs.declared.Flags.{Flags}
 use Rattle.claims.specs.declared.Claims.{Claims}
 use Rattle.claims.specs.declared.Claimed.{Claimed}
 
@@ -41,11 +44,12 @@ pub record Admits (q : List Entry) (ts : List Task) (c : TaskNumber) : Type 0 wh
 abbrev pub CallerAdmitted : Queue → Family → TaskNumber → Type 0
 CallerAdmitted q f c = PackedEntries q × Admits (entriesIn q) (f .places) c
 
--- an ENQ that goes on and whose codes are all 0
-pub record Unhindered (ret : Ret) (q : List Entry) (c : ℕ) (l : Names) : Type 0 where
+-- an ENQ that goes on, and what its codes say: whether every code is 0, and which names have another
+pub record CodesTold (ret : Ret) (q : List Entry) (c : ℕ) (l : Names) (zero : Bool) (skip : Flags) : Type 0 where
   pub good : namesGood l ≡ true
   pub room : tooFewFree ret q c l ≡ false
-  pub zero : allZero (enqCodes ret q c l) ≡ true
+  pub all : zero ≡ allZero (enqCodes ret q c l)
+  pub left : unskipped (skip .of) (l .asks) ≡ zeroCoded q c ret l
 
 -- the queue, and every resource wait what control says
 abbrev pub requeuedTo : List Entry → List Task → Claims
@@ -60,24 +64,28 @@ replyTo false = Four
 abbrev pub sameTables : Queue → Family → Claims
 sameTables q f = record { queue = q; family = f }
 
--- the column "then", where every code is 0
-abbrev pub enqChanged : Ret → Queue → Family → ℕ → Names → Claims
-enqChanged None q f c l = requeuedTo (withTail (entriesIn q) c l) (f .places)
-enqChanged Test q f c l = sameTables q f
-enqChanged Use q f c l = requeuedTo (withTail (entriesIn q) c l) (f .places)
-enqChanged Have q f c l = requeuedTo (withTail (entriesIn q) c l) (f .places)
-enqChanged Chng q f c l = requeuedTo (map (madeExclusive c (namesOf l)) (entriesIn q)) (f .places)
+-- what is to be queued stands at the tail
+abbrev pub tailed : Ret → Queue → Family → ℕ → Names → Claims
+tailed ret q f c l = requeuedTo (withTail (entriesIn q) c (toQueue ret (entriesIn q) c l)) (f .places)
 
--- "only if every code is 0"
-abbrev pub enqTables : Bool → Ret → Queue → Family → ℕ → Names → Claims
-enqTables zero ret q f c l = pick zero (enqChanged ret q f c l) (sameTables q f)
+-- CHNG's names are the caller's, exclusive
+abbrev pub changed : Queue → Family → ℕ → Names → Claims
+changed q f c l = requeuedTo (map (madeExclusive c (namesOf l)) (entriesIn q)) (f .places)
+
+-- the column "then"
+abbrev pub enqChanged : Ret → Queue → Family → ℕ → Names → Claims
+enqChanged None q f c l = tailed None q f c l
+enqChanged Test q f c l = sameTables q f
+enqChanged Use q f c l = pick (allZero (enqCodes Use (entriesIn q) c l)) (tailed Use q f c l) (sameTables q f)
+enqChanged Have q f c l = tailed Have q f c l
+enqChanged Chng q f c l = pick (allZero (enqCodes Chng (entriesIn q) c l)) (changed q f c l) (sameTables q f)
 
 -- ENQ's verdict, its reply and the two tables
 abbrev pub enqBy : Verdict → Ret → Queue → Family → ℕ → Names → Claimed
 enqBy v ret q f c l = record {
   verdict = v;
   reply = onGo v (replyTo (allZero (enqCodes ret (entriesIn q) c l))) Done;
-  tables = onGo v (enqTables (allZero (enqCodes ret (entriesIn q) c l)) ret q f c l) (sameTables q f);
+  tables = onGo v (enqChanged ret q f c l) (sameTables q f);
 }
 
 -- DEQ's

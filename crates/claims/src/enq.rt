@@ -1,12 +1,14 @@
 // ENQ.
 use crate::Claimed;
 use crate::Claims;
+use crate::reply_to;
 use crate::unchanged;
 use crate::write_due;
+use asks::codes::Codes;
 use family::Family;
+use flags::Flags;
 use kinds::Condition;
 use kinds::NameList;
-use kinds::Reply;
 use kinds::Ret;
 use kinds::TaskNumber;
 use kinds::Verdict;
@@ -15,51 +17,51 @@ ghost use mathlib.Core.Path.{_≡_};
 ghost use mathlib.Core.Bool.{true};
 ghost use Prim.Native.Nat.{_+_, _≤_};
 ghost use lib.ListN.{length};
-ghost use Rattle.lists.specs.Lists.{every};
+ghost use Rattle.lists.specs.Lists.{every, unskipped};
 ghost use Rattle.kinds.specs.Limits.{mostEntries, longestList};
 ghost use Rattle.kinds.specs.declared.replies.Verdict.the-variants.{Go};
-ghost use Rattle.kinds.specs.declared.requests.Ret.the-variants.{Chng};
 ghost use Rattle.names.specs.Named.{namesIn};
 ghost use Rattle.rules.specs.Names.{namesOf, namesGood};
 ghost use Rattle.rules.specs.Control.{available, soleOwner};
-ghost use Rattle.rules.specs.Codes.{allZero};
 ghost use Rattle.rules.specs.Enq.{enqCodes, enqCodesDue, withTail, enqWritten};
 ghost use Rattle.queue.specs.Queues.{entriesIn};
+ghost use Rattle.asks.specs.Coding.{codesOf};
 ghost use Rattle.laws.specs.Passed.{CodesFit};
-ghost use Rattle.claims.specs.Claiming.{CallerAdmitted, Unhindered, requeuedTo};
+ghost use Rattle.claims.specs.Claiming.{CallerAdmitted, CodesTold, requeuedTo, sameTables, changed};
 ghost use Rattle.claims.specs.Claiming.{enqChanged, enqBy, EnqGoes, enqClaimed, enqLeaves};
 
-// A code for each name, of the queue as it is, written where codes are due; says whether all are 0.
-fn write_codes(q: Queue, caller: TaskNumber, ret: Ret, names: NameList, codes: &mut [u8]) -> bool
+// A code for each name, of the queue as it is, written where codes are due.
+fn write_codes(q: Queue, caller: TaskNumber, ret: Ret, names: NameList, codes: &mut [u8]) -> Codes
     requires { ⌜ (q .count ≤ mostEntries) × (names .count ≤ longestList) ⌝ }
     requires { ⌜ CodesFit (enqCodesDue ret) (length (now codes)) (namesIn names) ⌝ }
-    ensures { λ r. ⌜ r ≡ allZero (enqCodes ret (entriesIn q) (caller .0) (namesIn names)) ⌝ }
+    ensures { λ r. ⌜ r ≡ codesOf (enqCodes ret (entriesIn q) (caller .0) (namesIn names)) ⌝ }
     ensures { λ _. ⌜ now (codes .exit) ≡ enqWritten (entriesIn q) caller ret (namesIn names) (now (codes .entry)) ⌝ }
 {
     let k = asks::codes::enq_codes(q, caller, ret, names);
     let due = asks::codes::enq_codes_due(ret);
     write_due(due, k, names.count, codes);
-    asks::codes::all_zero(k, names.count)
+    k
 }
 
-// A request for each of the names would have control at once.
-fn all_available(q: Queue, names: NameList) -> bool
+// A request for each of the names, but for those that are skipped, would have control at once.
+fn all_available(q: Queue, names: NameList, skip: Flags) -> bool
     requires { ⌜ (q .count ≤ mostEntries) × (names .count ≤ longestList) ⌝ }
-    ensures { λ r. ⌜ r ≡ every (available (entriesIn q)) (namesIn names .asks) ⌝ }
+    ensures { λ r. ⌜ r ≡ every (available (entriesIn q)) (unskipped (skip .of) (namesIn names .asks)) ⌝ }
 {
     let free = flags::available(q, names);
-    flags::all_set(free, names.count)
+    flags::all_set_but(free, skip, names.count)
 }
 
-// The new entries stand at the tail; unless every name was available the caller waits.
-fn queued(q: Queue, f: Family, caller: TaskNumber, names: NameList) -> Claims
+// The names, but for those that are skipped, stand at the tail; unless each of them was available the caller waits.
+fn queued(q: Queue, f: Family, caller: TaskNumber, names: NameList, skip: Flags) -> Claims
     requires { ⌜ CallerAdmitted q f caller ⌝ }
     requires { ⌜ namesGood (namesIn names) ≡ true ⌝ }
-    requires { ⌜ length (entriesIn q) + length (namesIn names .asks) ≤ mostEntries ⌝ }
-    ensures { λ r. ⌜ r ≡ requeuedTo (withTail (entriesIn q) (caller .0) (namesIn names)) (f .places) ⌝ }
+    requires { ⌜ length (entriesIn q) + length (unskipped (skip .of) (namesIn names .asks)) ≤ mostEntries ⌝ }
+    ensures { λ r. ⌜ r
+        ≡ requeuedTo (withTail (entriesIn q) (caller .0) (unskipped (skip .of) (namesIn names .asks))) (f .places) ⌝ }
 {
-    let entries = entries::enq::with_tail(q, caller, names);
-    if all_available(q, names) {
+    let entries = entries::enq::with_tail(q, caller, names, skip);
+    if all_available(q, names, skip) {
         return Claims {
             queue: entries,
             family: f,
@@ -79,7 +81,7 @@ fn made_exclusive(q: Queue, f: Family, caller: TaskNumber, names: NameList) -> C
     requires { ⌜ CallerAdmitted q f caller ⌝ }
     requires { ⌜ names .count ≤ longestList ⌝ }
     requires { ⌜ every (soleOwner (entriesIn q) (caller .0)) (namesOf (namesIn names)) ≡ true ⌝ }
-    ensures { λ r. ⌜ r ≡ enqChanged Chng q f (caller .0) (namesIn names) ⌝ }
+    ensures { λ r. ⌜ r ≡ changed q f (caller .0) (namesIn names) ⌝ }
 {
     let changed = entries::enq::made_exclusive(q, caller, names);
     Claims {
@@ -88,24 +90,49 @@ fn made_exclusive(q: Queue, f: Family, caller: TaskNumber, names: NameList) -> C
     }
 }
 
-// What each RET kind does where every code is 0.
-fn change(q: Queue, f: Family, caller: TaskNumber, ret: Ret, names: NameList) -> Claims
-    requires { ⌜ CallerAdmitted q f caller × Unhindered ret (entriesIn q) (caller .0) (namesIn names) ⌝ }
-    ensures { λ r. ⌜ r ≡ enqChanged ret q f (caller .0) (namesIn names) ⌝ }
+fn same(q: Queue, f: Family) -> Claims
+    ensures { λ r. ⌜ r ≡ sameTables q f ⌝ }
 {
-    match ret {
-        Ret::None => queued(q, f, caller, names),
-        Ret::Test => Claims {
-            queue: q,
-            family: f,
-        },
-        Ret::Use => queued(q, f, caller, names),
-        Ret::Have => queued(q, f, caller, names),
-        Ret::Chng => made_exclusive(q, f, caller, names),
+    Claims {
+        queue: q,
+        family: f,
     }
 }
 
-// Only if every code is 0 does anything change.
+// What each RET kind does: USE and CHNG only if every code is 0. Whichever queues, the names with another code are
+// skipped: under NONE there is none, under USE then none.
+fn change(
+    q: Queue,
+    f: Family,
+    caller: TaskNumber,
+    ret: Ret,
+    names: NameList,
+    zero: bool,
+    skip: Flags,
+) -> Claims
+    requires { ⌜ CallerAdmitted q f caller × CodesTold ret (entriesIn q) (caller .0) (namesIn names) zero skip ⌝ }
+    ensures { λ r. ⌜ r ≡ enqChanged ret q f (caller .0) (namesIn names) ⌝ }
+{
+    match ret {
+        Ret::None => queued(q, f, caller, names, skip),
+        Ret::Test => same(q, f),
+        Ret::Use => {
+            if !zero {
+                return same(q, f);
+            }
+            queued(q, f, caller, names, skip)
+        }
+        Ret::Have => queued(q, f, caller, names, skip),
+        Ret::Chng => {
+            if !zero {
+                return same(q, f);
+            }
+            made_exclusive(q, f, caller, names)
+        }
+    }
+}
+
+// The codes, and by them what changes and the answer.
 fn goes_on(
     q: Queue,
     f: Family,
@@ -118,21 +145,14 @@ fn goes_on(
     ensures { λ r. ⌜ r ≡ enqBy Go ret q f (caller .0) (namesIn names) ⌝ }
     ensures { λ _. ⌜ now (codes .exit) ≡ enqWritten (entriesIn q) caller ret (namesIn names) (now (codes .entry)) ⌝ }
 {
-    if !write_codes(q, caller, ret, names, codes) {
-        let same = Claims {
-            queue: q,
-            family: f,
-        };
-        return Claimed {
-            verdict: Verdict::Go,
-            reply: Reply::Four,
-            tables: same,
-        };
-    }
-    let l = change(q, f, caller, ret, names);
+    let k = write_codes(q, caller, ret, names, codes);
+    let zero = asks::codes::all_zero(k, names.count);
+    let skip = asks::codes::skipped(k);
+    let l = change(q, f, caller, ret, names, zero, skip);
+    let reply = reply_to(zero);
     Claimed {
         verdict: Verdict::Go,
-        reply: Reply::Done,
+        reply,
         tables: l,
     }
 }

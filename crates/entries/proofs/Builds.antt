@@ -1,54 +1,95 @@
--- A loop that queues an entry of task t for each of the names asked for, behind what stands in q.
+-- A loop that queues an entry of task t for each name asked for, but for the skipped, behind what stands in q.
 use mathlib.Core.Path.{_≡_, refl, sym, ap, _∙_}
+use mathlib.Core.Bool.{Bool, true, false}
 use mathlib.Core.List.{List, [], _∷_, _++_, map, append-nil, append-assoc}
-use Prim.Native.Nat.{ℕ, _+_, _<_}
+use Prim.Native.Nat.{ℕ, _+_, _≤_, _<_}
 use native.Mathlib.Omega.{arith}
-use lib.ListN.{length, take, getD, length-set}
-use Rattle.lists.specs.Changing.{view-next}
+use lib.ListN.{length, getD, length-set}
+use Rattle.lists.specs.Skipping.{leftFrom, left-view, left-over}
 use Rattle.lists.specs.Packed.{appended, append-stored, stored-count}
 use Rattle.kinds.specs.Limits.{mostEntries}
 use Rattle.kinds.specs.declared.names.Name.{Name}
 use Rattle.kinds.specs.declared.names.Slot.{Slot}
 use Rattle.kinds.specs.declared.names.Wanted.{Wanted}
 use Rattle.names.specs.Named.{askOf, wantedName, kept}
+use Rattle.rules.specs.Names.{Ask}
 use Rattle.rules.specs.Control.{Entry}
-use Rattle.rules.specs.Enq.{entryFor}
+use Rattle.rules.specs.Enq.{entryFor, withTail}
 use Rattle.queue.specs.Queues.{entriesIn, storedEntries, PackedEntries}
 use Rattle.queue.specs.declared.Queue.{Queue}
 use Rattle.queue.proofs.Views.{table}
 
-abbrev pub tailed : ℕ → Queue → List Wanted → ℕ → List Entry
-tailed t q ws i = entriesIn q ++ map (entryFor t) (take i (map askOf ws))
-
--- the entries of the first i names are queued
-pub record Tailed (t : ℕ) (q : Queue) (ws : List Wanted) (i : ℕ) (r : Queue) : Type 0 where
-  pub so-far : r ≡ storedEntries (tailed t q ws i)
-  pub many : r .count ≡ q .count + i
-  pub all : length (r .slots) ≡ mostEntries
-
-pub tailed-start : {t : ℕ} {q : Queue} {ws : List Wanted} → PackedEntries q → length (q .slots) ≡ mostEntries
-    → Tailed t q ws 0 q
-tailed-start {q = q} p n =
-    record { so-far = p .form ∙ ap storedEntries (sym (append-nil (entriesIn q))); many = omega arith; all = n }
+-- what the names at the places i to n - 1 ask for, but for the skipped
+abbrev pub asksLeft : List Bool → List Wanted → ℕ → ℕ → List Ask
+asksLeft skip ws i n = leftFrom skip (map askOf ws) i n
 
 -- the slot of an entry for the name n that w asks for
 abbrev slotFor : ℕ → Wanted → Name → Slot
 slotFor t w n = record { task = record { 0 = t }; exclusive = w .exclusive; name = n }
 
-pub tailed-next : {t : ℕ} {q r : Queue} {ws : List Wanted} {i : ℕ} → Tailed t q ws i r → i < length ws
-    → r .count < mostEntries → (d : Wanted) (n : Name) → n ≡ kept (wantedName (getD ws i d))
-    → Tailed t q ws (i + 1) (appended table r (slotFor t (getD ws i d) n))
-tailed-next {t} {q} {r} {ws} {i} v here few d n k =
-    let s = slotFor t (getD ws i d) n in
-    let e = entryFor t (askOf (getD ws i d)) in
-    let one = ap (λ (m : Name). slotFor t (getD ws i d) m ∷ []) (sym k) in
-    record {
-      so-far =
-          append-stored table (tailed t q ws i) e s (appended table r s) r one
-          (omega (arith, stored-count table (tailed t q ws i) r (v .so-far))) (v .so-far) refl
-          ∙ ap storedEntries
-          (append-assoc (entriesIn q) (map (entryFor t) (take i (map askOf ws))) (e ∷ [])
-          ∙ ap (λ (l : List Entry). entriesIn q ++ l) (sym (view-next (entryFor t) askOf ws i d here)));
-      many = omega (arith, v .many);
-      all = length-set (r .slots) (r .count) s ∙ v .all;
-    }
+-- what an array would show past its end, where no place of it is in question
+blank : Wanted
+blank = record { exclusive = false; name = record { major = []; minor = []; length = 0 } }
+
+-- the names from place i on are left: behind what is stored so far they make the whole, and there is room for them
+pub record Tailed (t : ℕ) (q : Queue) (skip : List Bool) (ws : List Wanted) (i n : ℕ) (r : Queue) : Type 0 where
+  pub so-far : List Entry
+  pub stored : r ≡ storedEntries so-far
+  pub whole : withTail so-far t (asksLeft skip ws i n) ≡ withTail (entriesIn q) t (asksLeft skip ws 0 n)
+  pub room : r .count + length (asksLeft skip ws i n) ≤ mostEntries
+  pub all : length (r .slots) ≡ mostEntries
+
+module _ {t : ℕ} {q : Queue} {skip : List Bool} {ws : List Wanted} where
+  pub tailed-start : {n : ℕ} → PackedEntries q → length (q .slots) ≡ mostEntries
+      → q .count + length (asksLeft skip ws 0 n) ≤ mostEntries → Tailed t q skip ws 0 n q
+  tailed-start p a h = record { so-far = entriesIn q; stored = p .form; whole = refl; room = h; all = a }
+
+  module _ {i n : ℕ} {r : Queue} (v : Tailed t q skip ws i n r) where
+    pub tailed-end : i ≡ n → r ≡ storedEntries (withTail (entriesIn q) t (asksLeft skip ws 0 n))
+    tailed-end e =
+        v .stored
+        ∙ ap storedEntries
+        (sym (append-nil (v .so-far))
+        ∙ ap (withTail (v .so-far) t) (sym (left-over skip (map askOf ws) i n e))
+        ∙ v .whole)
+
+    -- the name at place i, by its flag
+    module _ (here : i < n) (few : n ≤ length ws) (flagged : i < length skip) (s : Bool) where
+      goes : getD skip i s ≡ true → asksLeft skip ws i n ≡ asksLeft skip ws (i + 1) n
+      goes e = left-view askOf skip ws i n blank s here few flagged ∙ rw e
+
+      comes : (d : Wanted) → getD skip i s ≡ false
+          → asksLeft skip ws i n ≡ askOf (getD ws i d) ∷ asksLeft skip ws (i + 1) n
+      comes d e = left-view askOf skip ws i n d s here few flagged ∙ rw e
+
+      pub tailed-room : getD skip i s ≡ false → r .count < mostEntries
+      tailed-room e = omega (arith, v .room, ap length (comes blank e))
+
+      pub tailed-next : getD skip i s ≡ false → (d : Wanted) (m : Name) → m ≡ kept (wantedName (getD ws i d))
+          → {u : Queue} → u ≡ appended table r (slotFor t (getD ws i d) m) → Tailed t q skip ws (i + 1) n u
+      tailed-next e d m k {u} f =
+          let x = slotFor t (getD ws i d) m in
+          let new = entryFor t (askOf (getD ws i d)) in
+          let one = ap (λ (y : Name). slotFor t (getD ws i d) y ∷ []) (sym k) in
+          let z = tailed-room e in
+          record {
+            so-far = v .so-far ++ (new ∷ []);
+            stored =
+                append-stored table (v .so-far) new x u r one
+                (omega (arith, stored-count table (v .so-far) r (v .stored))) (v .stored) f;
+            whole =
+                append-assoc (v .so-far) (new ∷ []) (map (entryFor t) (asksLeft skip ws (i + 1) n))
+                ∙ ap (withTail (v .so-far) t) (sym (comes d e))
+                ∙ v .whole;
+            room = omega (arith, v .room, ap length (comes d e), ap (λ (y : Queue). y .count) f);
+            all = ap (λ (y : Queue). length (y .slots)) f ∙ length-set (r .slots) (r .count) x ∙ v .all;
+          }
+
+      pub tailed-passed : getD skip i s ≡ true → {u : Queue} → u ≡ r → Tailed t q skip ws (i + 1) n u
+      tailed-passed e {u} f = record {
+        so-far = v .so-far;
+        stored = f ∙ v .stored;
+        whole = ap (withTail (v .so-far) t) (sym (goes e)) ∙ v .whole;
+        room = omega (arith, v .room, ap length (goes e), ap (λ (y : Queue). y .count) f);
+        all = ap (λ (y : Queue). length (y .slots)) f ∙ v .all;
+      }

@@ -1,5 +1,6 @@
 // The changes of the queue that ENQ makes.
 // Entries are stored and names compared in place: a call would copy the queue or the list at each turn.
+use flags::Flags;
 use kinds::NameList;
 use kinds::Slot;
 use kinds::TaskNumber;
@@ -8,34 +9,38 @@ ghost use mathlib.Core.Path.{_≡_};
 ghost use mathlib.Core.Bool.{true};
 ghost use mathlib.Core.List.{map};
 ghost use Prim.Native.Nat.{_+_, _≤_};
-ghost use Rattle.lists.specs.Lists.{every};
+ghost use lib.ListN.{length};
+ghost use Rattle.lists.specs.Lists.{every, unskipped};
 ghost use Rattle.kinds.specs.Limits.{mostEntries, longestList};
 ghost use Rattle.rules.specs.Names.{legal, namesOf};
 ghost use Rattle.rules.specs.Enq.{withTail, madeExclusive};
 ghost use Rattle.names.specs.Named.{namesIn};
 ghost use Rattle.queue.specs.Queues.{storedEntries, entriesIn, PackedEntries};
 
-// New entries go to the tail, in list order.
-pub fn with_tail(q: Queue, c: TaskNumber, l: NameList) -> Queue
-    requires { ⌜ PackedEntries q × (l .count ≤ longestList) × (q .count + l .count ≤ mostEntries)
+// New entries go to the tail, in list order, but for the names that are skipped.
+pub fn with_tail(q: Queue, c: TaskNumber, l: NameList, skip: Flags) -> Queue
+    requires { ⌜ PackedEntries q × (l .count ≤ longestList)
+        × (q .count + length (unskipped (skip .of) (namesIn l .asks)) ≤ mostEntries)
         × (every legal (namesOf (namesIn l)) ≡ true) ⌝ }
-    ensures { λ r. ⌜ r ≡ storedEntries (withTail (entriesIn q) (c .0) (namesIn l)) ⌝ }
+    ensures { λ r. ⌜ r ≡ storedEntries (withTail (entriesIn q) (c .0) (unskipped (skip .of) (namesIn l .asks))) ⌝ }
 {
     let n = l.count as usize;
     let mut r = q;
     let mut i = 0;
     while i < n {
-        let w = l.names[i];
-        let m = w.name;
-        let name = names::clean(m);
-        let e = Slot {
-            task: c,
-            exclusive: w.exclusive,
-            name,
-        };
-        let at = r.count;
-        r.slots[at] = e;
-        r.count = at + 1;
+        if !skip.of[i] {
+            let w = l.names[i];
+            let m = w.name;
+            let name = names::clean(m);
+            let e = Slot {
+                task: c,
+                exclusive: w.exclusive,
+                name,
+            };
+            let at = r.count;
+            r.slots[at] = e;
+            r.count = at + 1;
+        }
         i += 1;
     }
     r

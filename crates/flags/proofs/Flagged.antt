@@ -9,10 +9,11 @@ use lib.ListN.{length, getD, take, length-map, List·getD-map}
 use lib.Seq.{slice, slice-empty, length-take-le}
 use borrow.Author.Tests.{ltb-true, ltb-false}
 use Rattle.lists.specs.Bools.{and-left, and-right}
-use Rattle.lists.specs.Lists.{every, some}
+use Rattle.lists.specs.Lists.{every, some, unskipped}
 use Rattle.lists.specs.Tables.{padded, padded-take}
 use Rattle.lists.specs.Every.{slice-view, every-of, some-of}
 use Rattle.lists.specs.Filling.{filled-at}
+use Rattle.lists.specs.Skipping.{unskipped-map}
 use Rattle.kinds.specs.Limits.{longestList}
 use Rattle.kinds.specs.declared.names.Slot.{Slot}
 use Rattle.kinds.specs.declared.names.Wanted.{Wanted}
@@ -21,7 +22,7 @@ use Rattle.names.specs.Named.{askOf, namesIn}
 use Rattle.rules.specs.Names.{Ask}
 use Rattle.rules.specs.Control.{Entry, control, available}
 use Rattle.queue.specs.Queues.{entryOf}
-use Rattle.flags.specs.Flagging.{flagsOf, someSet, allSet}
+use Rattle.flags.specs.Flagging.{flagsOf, someSet, allSet, allSetBut}
 use Rattle.flags.proofs.Filled.{Filled, filled-all}
 use Rattle.flags.specs.declared.Flags.{Flags}
 
@@ -100,3 +101,10 @@ module _ (f : Ask → Bool) (l : NameList) (r : Flags) (e : r ≡ flagsOf f (nam
   pub every-flag : allSet r (l .count) ≡ every f (namesIn l .asks)
   unfolding allSet
   every-flag = ap (every (λ (b : Bool). b)) flags-taken ∙ every-of f (λ (b : Bool). b) (namesIn l .asks)
+
+  pub every-flag-but : (skip : Flags) → allSetBut r skip (l .count) ≡ every f (unskipped (skip .of) (namesIn l .asks))
+  unfolding allSetBut
+  every-flag-but skip =
+      ap (λ (m : List Bool). every (λ (b : Bool). b) (unskipped (skip .of) m)) flags-taken
+      ∙ ap (every (λ (b : Bool). b)) (unskipped-map f (skip .of) (namesIn l .asks))
+      ∙ every-of f (λ (b : Bool). b) (unskipped (skip .of) (namesIn l .asks))

@@ -13,7 +13,7 @@ ghost use Rattle.names.specs.Named.{resourceOf, namesIn};
 ghost use Rattle.rules.specs.Names.{Ask};
 ghost use Rattle.rules.specs.Control.{isFor, hasEntry, available as availableIn};
 ghost use Rattle.queue.specs.Queues.{entryOf, entriesIn};
-ghost use Rattle.flags.specs.Flagging.{flagsOf, someSet, allSet};
+ghost use Rattle.flags.specs.Flagging.{flagsOf, someSet, allSet, allSetBut};
 
 // One flag for each name beside a request, false past the count.
 pub struct Flags {
@@ -47,6 +47,24 @@ pub fn all_set(f: Flags, n: u32) -> bool
     while i < m {
         let b = f.of[i];
         if !b {
+            return false;
+        }
+        i += 1;
+    }
+    true
+}
+
+// All of the first n flags are set, but for those that are skipped.
+pub fn all_set_but(f: Flags, skip: Flags, n: u32) -> bool
+    requires { ⌜ n ≤ longestList ⌝ }
+    ensures { λ r. ⌜ r ≡ allSetBut f skip n ⌝ }
+{
+    let m = n as usize;
+    let mut i = 0;
+    while i < m {
+        let s = skip.of[i];
+        let b = f.of[i];
+        if !(s | b) {
             return false;
         }
         i += 1;

@@ -1,14 +1,15 @@
 -- What a turn says by its request and its reply is what its effect does: who is attached, queued, released and ended.
 use Prim.Native.Nat.{ℕ, zero, suc}
 use mathlib.Core.Path.{_≡_, refl, sym, ap, subst, _∙_}
-use mathlib.Core.Bool.{Bool, true, false, cond, _&&_, _||_, or-false, false≢true}
+use mathlib.Core.Bool.{Bool, true, false, not, cond, _&&_, _||_, or-true, or-false, false≢true}
 use mathlib.Core.List.{List, [], _∷_, _++_, map}
 use mathlib.Core.Logic.{_⊎_, inl, inr}
 use lib.Dec.{eqb}
 use borrow.Author.Tests.{eqb-true, eq-eqb}
-use Rattle.lists.specs.Lists.{some}
-use Rattle.lists.specs.Bools.{both, either}
+use Rattle.lists.specs.Lists.{keep, some}
+use Rattle.lists.specs.Bools.{both, either, never, decided}
 use Rattle.lists.specs.Every.{some-of}
+use Rattle.lists.specs.Keeping.{some-keep}
 use Rattle.kinds.specs.Limits.{jobStepTask, highestTask}
 use Rattle.kinds.specs.Replies.{faults, isFault, faultNumber}
 use Rattle.kinds.specs.declared.requests.Request.{Request}
@@ -18,17 +19,18 @@ use Rattle.kinds.specs.declared.requests.Ret.{Ret}
 use Rattle.kinds.specs.declared.requests.Ret.the-variants.{None, Test, Use, Have, Chng}
 use Rattle.kinds.specs.declared.replies.Fault.{Fault}
 use Rattle.rules.specs.Names.{Resource, Ask, nameOf, namesOf, sameName}
-use Rattle.rules.specs.Control.{isFor, hasEntry}
-use Rattle.rules.specs.Enq.{entryFor}
+use Rattle.rules.specs.Control.{Entry, isFor, hasEntry}
+use Rattle.rules.specs.Enq.{fresh, toQueue, entryFor}
 use Rattle.rules.specs.Form.{callerOf}
 use Rattle.rules.specs.Reading.{Turn, Effect, NoEffect, Queues, Releases, Changes, Ends, Attaches, takes, brings, Link}
 use Rattle.rules.specs.Reading.{linksBy, motherIn, climbs, endsWith, endsAlone}
-use Rattle.rules.specs.Reading.{enqEffect, ifDone, wentOn, effectOf, nothing, reading}
-use Rattle.laws.specs.SameNames.{name-sym}
-use Rattle.history.specs.Told.{task, Attached, IsAttached, Mother, Below, EndsWith, Queued, Released, Ended}
+use Rattle.rules.specs.Reading.{Reading, enqEffect, ifDone, wentOn, effectOf, nothing, reading}
+use Rattle.laws.specs.SameNames.{name-sym, name-eq}
+use Rattle.history.specs.Told.{task, Attached, IsAttached, Mother, Below, EndsWith, Has, Queued, Released}
+use Rattle.history.specs.Told.{Ended}
 use Rattle.history.specs.Told.Attached.{attach}
 use Rattle.history.specs.Told.Below.{itself, under}
-use Rattle.history.specs.Told.Queued.{enq}
+use Rattle.history.specs.Told.Queued.{enq, have}
 use Rattle.history.specs.Told.Released.{deq}
 use Rattle.history.specs.Told.Ended.{end, abend, detach, fault}
 use Rattle.history.proofs.Effects.{entryAs, fault-effect}
@@ -62,9 +64,39 @@ brings-asked c t n l = some-of (entryFor c) (isFor t n) l ∙ one (eqb c t) l
     one false [] = refl
     one false (a ∷ k) = one false k
 
+-- what is kept of a list was in it
+some-kept : {A : Type 0} (p f : A → Bool) (l : List A) → some p (keep f l) ≡ true → some p l ≡ true
+some-kept p f l h = one (decided (some p l))
+  where
+    one : (some p l ≡ true) ⊎ (some p l ≡ false) → some p l ≡ true
+    one (inl e) = e
+    one (inr e) = never (some p (keep f l)) h (some-keep p f l e)
+
+-- an ask for a name that task t has no entry for is kept
+kept-named : (q : List Entry) (t : ℕ) (n : Resource) → hasEntry q t n ≡ false → (l : List Ask)
+    → some (λ (a : Ask). sameName (a .name) n) l ≡ true
+    → some (λ (a : Ask). sameName (a .name) n) (keep (fresh q t) l) ≡ true
+kept-named q t n e [] h = h
+kept-named q t n e (a ∷ l) h = one (sameName (a .name) n) (fresh q t a) refl refl h (kept-named q t n e l)
+  where
+    asks : Ask → Bool
+    asks b = sameName (b .name) n
+
+    one : (i f : Bool) → sameName (a .name) n ≡ i → fresh q t a ≡ f → (i || some asks l) ≡ true
+        → (some asks l ≡ true → some asks (keep (fresh q t) l) ≡ true)
+        → some asks (cond f (a ∷ keep (fresh q t) l) (keep (fresh q t) l)) ≡ true
+    one true true i f h ih = rw i
+    one true false i f h ih =
+        absurd (false≢true (sym f ∙ ap (λ (k : Resource). not (hasEntry q t k)) (name-eq (a .name) n i) ∙ ap not e))
+    one false true i f h ih = or-later (asks a) _ (ih h)
+    one false false i f h ih = ih h
+
 -- WHO ENDS
 
 module _ (past : List Turn) (law : MothersTold past) where
+  abbrev read : Reading
+  read = reading nothing past
+
   abbrev m : ℕ → ℕ
   m = motherRead past
 
@@ -115,17 +147,20 @@ module _ (past : List Turn) (law : MothersTold past) where
     listed n [] = refl
     listed n (a ∷ l) = rw (name-sym n (a .name), listed n l)
 
-    asked : (c : ℕ) (ret : Ret) → u .request ≡ Enq (task c) ret → u .number ≡ 0 → Means (enqEffect c ret (u .names))
-    asked c None r z = λ n h. enq None r (inl refl) z h
-    asked c Test r z = tt
-    asked c Use r z = λ n h. enq Use r (inr (inl refl)) z h
-    asked c Have r z = λ n h. enq Have r (inr (inr refl)) z h
-    asked c Chng r z = tt
-
     -- only where the answer is 0
     if-done : (done : Bool) (ev : Effect) → (done ≡ true → Means ev) → Means (ifDone done ev)
     if-done true ev k = k refl
     if-done false ev k = tt
+
+    asked : (c : ℕ) (ret : Ret) (done : Bool) → u .request ≡ Enq (task c) ret → (done ≡ true → u .number ≡ 0)
+        → (u .number ≡ 0) ⊎ (u .number ≡ 4) → Means (enqEffect (read .queue) c ret (u .names) done)
+    unfolding toQueue
+    asked c None done e z g = if-done done (Queues c (u .names .asks)) (λ d n h. enq None e (inl refl) (z d) h)
+    asked c Test done e z g = tt
+    asked c Use done e z g = if-done done (Queues c (u .names .asks)) (λ d n h. enq Use e (inr refl) (z d) h)
+    asked c Have done e z g =
+        λ n h. have e g (some-kept (λ (a : Ask). sameName (a .name) n) (fresh (read .queue) c) (u .names .asks) h)
+    asked c Chng done e z g = if-done done (Changes c (namesOf (u .names))) (λ d. tt)
 
     alone-told : (c t : ℕ) → endsAlone c t ≡ true → (c ≡ jobStepTask) ⊎ (t ≡ c)
     alone-told c t h = one (either (eqb c jobStepTask) (eqb t c) h)
@@ -140,7 +175,7 @@ module _ (past : List Turn) (law : MothersTold past) where
 
     went : (q : Request) → u .request ≡ q → (done : Bool) → (done ≡ true → u .number ≡ 0)
         → (u .number ≡ 0) ⊎ (u .number ≡ 4)
-        → Means (wentOn m q (u .names) done (u .besides))
+        → Means (wentOn read q (u .names) done (u .besides))
     went (Attach c lpmod dpmod ecb) r done z g =
         if-done done (Attaches (c .0) (u .besides)) (λ d. attach lpmod dpmod ecb r (z d) refl)
     went (Detach c t) r done z g =
@@ -149,7 +184,7 @@ module _ (past : List Turn) (law : MothersTold past) where
         if-done done (Ends (endsAlone (c .0))) (λ d n h. end (c .0) code r (z d) (alone-told (c .0) n h))
     went (Abend c code all) r done z g =
         if-done done _ (λ d n h. abend (c .0) code all r (z d) (all-told all (c .0) n h))
-    went (Enq c ret) r done z g = if-done done (enqEffect (c .0) ret (u .names)) (λ d. asked (c .0) ret r (z d))
+    went (Enq c ret) r done z g = asked (c .0) ret done r z g
     went (Deq c ret) r done z g = λ n h. deq ret r g (sym (listed n (u .names .asks)) ∙ h)
     went (Wait c t) r done z g = tt
     went (Post c e code) r done z g = tt
@@ -171,13 +206,13 @@ module _ (past : List Turn) (law : MothersTold past) where
         one (inl e) ih = (w, eqb-true n (faultNumber w) e)
         one (inr e) ih = ih e
 
-    pub means : Means (effectOf m u)
+    pub means : Means (effectOf read u)
     means = one (isFault (u .number)) (eqb (u .number) 0) (eqb (u .number) 4) refl refl refl
       where
         one : (f z g : Bool) → isFault (u .number) ≡ f → eqb (u .number) 0 ≡ z → eqb (u .number) 4 ≡ g
             → Means (cond f (Ends (endsWith m (callerOf (u .request))))
-            (cond z (wentOn m (u .request) (u .names) true (u .besides))
-            (cond g (wentOn m (u .request) (u .names) false (u .besides)) NoEffect)))
+            (cond z (wentOn read (u .request) (u .names) true (u .besides))
+            (cond g (wentOn read (u .request) (u .names) false (u .besides)) NoEffect)))
         one true z g a b d =
             λ n h. fault (which faults (u .number) a .0) (which faults (u .number) a .1) (ends-told _ n h)
         one false true g a b d =
@@ -221,49 +256,71 @@ module _ (past : List Turn) (law : MothersTold past) where
         let e : eqb d c ≡ true = sym (or-false (eqb d c)) ∙ h in
         ((p, subst (λ (i : ℕ). Attached p i u) (eqb-true d c e) k), rw e)
 
-    pub taken-gone : (t : ℕ) (n : Resource) → takes (effectOf m u) (entryAs t n) ≡ true
+    pub taken-gone : (t : ℕ) (n : Resource) → takes (effectOf read u) (entryAs t n) ≡ true
         → Released t n u ⊎ Ended past t u
-    taken-gone = taken (effectOf m u) means
+    taken-gone = taken (effectOf read u) means
 
-    pub brought-queued : (t : ℕ) (n : Resource) → hasEntry (brings (effectOf m u)) t n ≡ true → Queued t n u
-    brought-queued = brought (effectOf m u) means
+    pub brought-queued : (t : ℕ) (n : Resource) → hasEntry (brings (effectOf read u)) t n ≡ true → Queued t n u
+    brought-queued = brought (effectOf read u) means
 
-    pub linked-attached : (ls : List Link) (c : ℕ) → attachesTo c (linksBy (effectOf m u)) ≡ true
-        → (a : IsAttached c u) × (motherIn (linksBy (effectOf m u) ++ ls) c ≡ a .0)
-    linked-attached = linked (effectOf m u) means
+    pub linked-attached : (ls : List Link) (c : ℕ) → attachesTo c (linksBy (effectOf read u)) ≡ true
+        → (a : IsAttached c u) × (motherIn (linksBy (effectOf read u) ++ ls) c ≡ a .0)
+    linked-attached = linked (effectOf read u) means
 
     -- FROM THE TURN TO THE EFFECT
 
-    pub attached-links : {p c : ℕ} → Attached p c u → linksBy (effectOf m u) ≡ record { child = c; mother = p } ∷ []
+    pub attached-links : {p c : ℕ} → Attached p c u → linksBy (effectOf read u) ≡ record { child = c; mother = p } ∷ []
     attached-links (attach lpmod dpmod ecb r z b) = rw (z, r, b)
 
-    pub queued-brought : (t : ℕ) (n : Resource) → Queued t n u → hasEntry (brings (effectOf m u)) t n ≡ true
-    queued-brought t n (enq ret r k z h) =
-        ap (λ (ev : Effect). hasEntry (brings ev) t n) (one k) ∙ brings-asked t t n (u .names .asks)
-        ∙ rw (eq-eqb t t refl, h)
-      where
-        one : (ret ≡ None) ⊎ ((ret ≡ Use) ⊎ (ret ≡ Have)) → effectOf m u ≡ Queues t (u .names .asks)
-        one (inl e) = rw (z, r, e)
-        one (inr (inl e)) = rw (z, r, e)
-        one (inr (inr e)) = rw (z, r, e)
+    -- the entry is there then: it comes, or it was there and stays
+    abbrev Stands : ℕ → Resource → Effect → Type 0
+    Stands t n ev =
+        ((hasEntry (read .queue) t n && not (takes ev (entryAs t n))) || hasEntry (brings ev) t n) ≡ true
 
-    released-taken : (t : ℕ) (n : Resource) → Released t n u → takes (effectOf m u) (entryAs t n) ≡ true
+    comes : (t : ℕ) (n : Resource) (asks : List Ask) → some (λ (a : Ask). sameName (a .name) n) asks ≡ true
+        → hasEntry (map (entryFor t) asks) t n ≡ true
+    comes t n asks h = brings-asked t t n asks ∙ rw (eq-eqb t t refl, h)
+
+    -- HAVE skips it only where it was there
+    skips-had : (t : ℕ) (n : Resource) (b : Bool) → hasEntry (read .queue) t n ≡ b → Has n (u .names)
+        → ((b && true) || hasEntry (map (entryFor t) (keep (fresh (read .queue) t) (u .names .asks))) t n) ≡ true
+    skips-had t n true e h = refl
+    skips-had t n false e h =
+        comes t n (keep (fresh (read .queue) t) (u .names .asks)) (kept-named (read .queue) t n e (u .names .asks) h)
+
+    pub queued-stands : (t : ℕ) (n : Resource) → Queued t n u → Stands t n (effectOf read u)
+    unfolding toQueue
+    queued-stands t n (enq ret e k z h) =
+        subst (Stands t n) (sym (one k))
+        (rw (comes t n (u .names .asks) h) (or-true (hasEntry (read .queue) t n && true)))
+      where
+        one : (ret ≡ None) ⊎ (ret ≡ Use) → effectOf read u ≡ Queues t (u .names .asks)
+        one (inl f) = rw (z, e, f)
+        one (inr f) = rw (z, e, f)
+    queued-stands t n (have e g h) =
+        subst (Stands t n) (sym (one g)) (skips-had t n (hasEntry (read .queue) t n) refl h)
+      where
+        one : (u .number ≡ 0) ⊎ (u .number ≡ 4) → effectOf read u ≡ Queues t (toQueue Have (read .queue) t (u .names))
+        one (inl z) = rw (z, e)
+        one (inr z) = rw (z, e)
+
+    released-taken : (t : ℕ) (n : Resource) → Released t n u → takes (effectOf read u) (entryAs t n) ≡ true
     released-taken t n (deq ret r g h) =
         ap (λ (ev : Effect). takes ev (entryAs t n)) (one g) ∙ rw (eq-eqb t t refl, listed n (u .names .asks), h)
       where
-        one : (u .number ≡ 0) ⊎ (u .number ≡ 4) → effectOf m u ≡ Releases t (namesOf (u .names))
+        one : (u .number ≡ 0) ⊎ (u .number ≡ 4) → effectOf read u ≡ Releases t (namesOf (u .names))
         one (inl z) = rw (z, r)
         one (inr z) = rw (z, r)
 
-    ended-taken : (t : ℕ) (n : Resource) → Ended past t u → takes (effectOf m u) (entryAs t n) ≡ true
+    ended-taken : (t : ℕ) (n : Resource) → Ended past t u → takes (effectOf read u) (entryAs t n) ≡ true
     ended-taken t n (end c code r z (inl e)) = rw (z, r, eq-eqb c jobStepTask e)
     ended-taken t n (end c code r z (inr e)) = rw (z, r) (or-later (eqb c jobStepTask) (eqb t c) (eq-eqb t c e))
     ended-taken t n (abend c code step r z (inl e)) = rw (z, r, e)
     ended-taken t n (abend c code step r z (inr e)) = rw (z, r) (or-later step (endsWith m c t) (told-ends c t e))
     ended-taken t n (detach c d r z e) = rw (z, r) (told-ends d t e)
-    ended-taken t n (fault what z e) = rw (fault-effect m u what z) (told-ends (callerOf (u .request)) t e)
+    ended-taken t n (fault what z e) = rw (fault-effect read u what z) (told-ends (callerOf (u .request)) t e)
 
     pub gone-taken : (t : ℕ) (n : Resource) → Released t n u ⊎ Ended past t u
-        → takes (effectOf m u) (entryAs t n) ≡ true
+        → takes (effectOf read u) (entryAs t n) ≡ true
     gone-taken t n (inl g) = released-taken t n g
     gone-taken t n (inr g) = ended-taken t n g

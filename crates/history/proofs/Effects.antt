@@ -16,7 +16,7 @@ use Rattle.rules.specs.Enq.{entryFor, madeExclusive}
 use Rattle.rules.specs.Deq.{released}
 use Rattle.rules.specs.Form.{callerOf}
 use Rattle.rules.specs.Reading.{Turn, Effect, NoEffect, Queues, Releases, Changes, Ends, Attaches}
-use Rattle.rules.specs.Reading.{takes, makesOf, after, endsWith, effectOf}
+use Rattle.rules.specs.Reading.{takes, makesOf, after, motherIn, endsWith, Reading, effectOf}
 
 -- those that some do not end
 abbrev pub outlives : (ℕ → Bool) → Entry → Bool
@@ -79,6 +79,6 @@ is-fault HasSubtasks = refl
 is-fault NotSubtask = refl
 
 -- it ends the caller, and all below
-pub fault-effect : (m : ℕ → ℕ) (u : Turn) (what : Fault) → u .number ≡ faultNumber what
-    → effectOf m u ≡ Ends (endsWith m (callerOf (u .request)))
-fault-effect m u what z = rw (z, is-fault what)
+pub fault-effect : (r : Reading) (u : Turn) (what : Fault) → u .number ≡ faultNumber what
+    → effectOf r u ≡ Ends (endsWith (motherIn (r .links)) (callerOf (u .request)))
+fault-effect r u what z = rw (z, is-fault what)

@@ -10,10 +10,10 @@ use Rattle.rules.specs.Serve.{Asked}
 use Rattle.rules.specs.Reading.{queueRead}
 use Rattle.rules.specs.DemandThree.{Run, stop, turn, Fresh}
 use Rattle.history.specs.Samples.{turnsBy, comesTo, start, x, y, served, orderly, crossed, behindOwners}
-use Rattle.history.specs.Samples.{ownerDetached}
+use Rattle.history.specs.Samples.{haveCrossed, ownerDetached}
 use Rattle.history.specs.Told.{StillQueued}
 use Rattle.history.proofs.Told.{queue-told}
-use Rattle.history.proofs.Computed.{turns, crossed-run, told-entries}
+use Rattle.history.proofs.Computed.{turns, crossed-run, have-crossed-run, told-entries}
 
 -- requests, however many, are a run
 pub run-of : (s : Step) (l : List Asked) → Run s (turnsBy served s l) (comesTo served s l)
@@ -27,6 +27,9 @@ starts = record { limit = 200; dispatching = 150; starts = refl }
 -- the tasks that wait for each other are a ring
 pub crossed-ring : Ring (queueRead (turns crossed))
 crossed-ring = (2, then (crossed-run .2) (step (crossed-run .3)))
+
+pub have-crossed-ring : Ring (queueRead (turns haveCrossed))
+have-crossed-ring = (2, then (have-crossed-run .3) (step (have-crossed-run .4)))
 
 -- 3 is still queued for y, 2 has released x, and 5 ended when its mother was detached
 pub told-run : StillQueued 3 y (turns orderly) × (StillQueued 2 x (turns orderly) → ⊥)

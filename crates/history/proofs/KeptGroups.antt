@@ -102,10 +102,12 @@ module _ (q : List Entry) (g : Grouped q) where
 
   pub after-grouped : (ev : Effect) → breaks ev q ≡ false → Grouped (after ev q)
   after-grouped NoEffect a = only-left NoEffect refl
-  after-grouped (Queues t asks) a =
-      joined t (left (Queues t asks) q) asks
-      (some-changed _ (same-task (Queues t asks)) t (keep (λ (e : Entry). true) q)
-      ∙ some-keep _ (λ (e : Entry). true) q a) (left-grouped (Queues t asks))
+  after-grouped (Queues t []) a = only-left (Queues t []) refl
+  after-grouped (Queues t (b ∷ asks)) a =
+      let ev = Queues t (b ∷ asks) in
+      joined t (left ev q) (b ∷ asks)
+      (some-changed _ (same-task ev) t (keep (λ (e : Entry). true) q)
+      ∙ some-keep _ (λ (e : Entry). true) q (or-left (some (ofTask t) q) _ a)) (left-grouped ev)
   after-grouped (Releases t ns) a = only-left (Releases t ns) refl
   after-grouped (Changes t ns) a = only-left (Changes t ns) refl
   after-grouped (Ends who) a = only-left (Ends who) refl

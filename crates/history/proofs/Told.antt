@@ -1,7 +1,7 @@
 -- The queue that is read from turns has an entry exactly when it was queued, and since then neither released nor ended.
 use Prim.Native.Nat.{ℕ}
 use mathlib.Core.Path.{_≡_, refl, sym, ap, ap₂, subst, _∙_}
-use mathlib.Core.Bool.{Bool, true, false, not, cond, _&&_, _||_, or-true, and-false, false≢true}
+use mathlib.Core.Bool.{Bool, true, false, not, cond, _&&_, _||_, and-false, false≢true}
 use mathlib.Core.List.{List, [], _∷_, _++_, map}
 use mathlib.Core.Logic.{_⊎_, inl, inr, _↔_}
 use borrow.Author.Tests.{eqb-true, not-true}
@@ -13,13 +13,13 @@ use Rattle.rules.specs.Control.{Entry, ofTask, isFor, hasEntry}
 use Rattle.rules.specs.Steps.{Step}
 use Rattle.rules.specs.Reading.{Turn, Effect, takes, makesOf}
 use Rattle.rules.specs.Reading.{brings, after, effectOf}
-use Rattle.rules.specs.Reading.{Reading, nothing, queueRead}
+use Rattle.rules.specs.Reading.{Reading, nothing, reading, queueRead}
 use Rattle.rules.specs.DemandThree.{Run, Fresh}
 use Rattle.laws.specs.SameNames.{name-eq}
 use Rattle.history.specs.Told.{Queued, Released, Ended, StillQueued, InQueue, QueueTold}
 use Rattle.history.proofs.Since.{since-none, since-last, since-next, since-back, by-turns}
 use Rattle.history.proofs.Effects.{entryAs, makes-same, takes-by}
-use Rattle.history.proofs.Deeds.{motherRead, taken-gone, brought-queued, queued-brought, gone-taken}
+use Rattle.history.proofs.Deeds.{taken-gone, brought-queued, queued-stands, gone-taken}
 use Rattle.history.proofs.ToldMothers.{reading-last, mothers-told}
 use Rattle.history.proofs.Runs.{run-keeps}
 
@@ -72,7 +72,7 @@ module _ (t : ℕ) (n : Resource) where
 
   module _ (us : List Turn) (u : Turn) (law : Law us) where
     abbrev ev : Effect
-    ev = effectOf (motherRead us) u
+    ev = effectOf (reading nothing us) u
 
     abbrev q : List Entry
     q = queueRead us
@@ -98,8 +98,7 @@ module _ (t : ℕ) (n : Resource) where
       where
         one : Queued t n u ⊎ (StillQueued t n us × (Released t n u ⊎ Ended us t u → ⊥))
             → ((hasEntry q t n && not (takes ev (entryAs t n))) || hasEntry (brings ev) t n) ≡ true
-        one (inl d) =
-            rw (queued-brought us (mothers-told us) u t n d) (or-true (hasEntry q t n && not (takes ev (entryAs t n))))
+        one (inl d) = queued-stands us (mothers-told us) u t n d
         one (inr b) =
             let g = not-so (takes ev (entryAs t n)) (λ h. b .1 (taken-gone us (mothers-told us) u t n h)) in
             rw (law .1 (b .0), g)

@@ -11,7 +11,7 @@ use Rattle.rules.specs.Reading.{Turn, Link, linksBy, motherIn, effectOf, Readin
 use Rattle.history.specs.Told.{Since, Attached, IsAttached, Mother}
 use Rattle.history.proofs.Since.{never-next, never-back, since-none, since-last, since-next, since-back}
 use Rattle.history.proofs.Since.{by-turns}
-use Rattle.history.proofs.Deeds.{motherRead, MothersTold, attachesTo, linked-attached, attached-links}
+use Rattle.history.proofs.Deeds.{MothersTold, attachesTo, linked-attached, attached-links}
 
 -- one turn more is read
 pub reading-last : (r : Reading) (us : List Turn) (u : Turn) → reading r (us ++ (u ∷ [])) ≡ reads (reading r us) u
@@ -26,7 +26,7 @@ other-links c (k ∷ ks) ls h =
 
 module _ (us : List Turn) (law : MothersTold us) (u : Turn) where
   abbrev ks : List Link
-  ks = linksBy (effectOf (motherRead us) u)
+  ks = linksBy (effectOf (reading nothing us) u)
 
   abbrev ls : List Link
   ls = reading nothing us .links

@@ -74,7 +74,7 @@ module _ (s : Step) (r : Reading) (e : Seen s r) (q : Request) (l : Names) where
       failing-follows : (what : Fault) → Follows r q l (failing what s c)
       unfolding failing
       failing-follows what =
-          rw (fault-effect (motherIn (r .links)) (told q l (failing what s c)) what refl) (gone (faultNumber what))
+          rw (fault-effect r (told q l (failing what s c)) what refl) (gone (faultNumber what))
 
     settled-follows : (v : Verdict) (o : Outcome Step) → Sound s → gateOf s c ≡ Open → (v ≡ Go → Follows r q l o)
         → Follows r q l (settled v s c o)

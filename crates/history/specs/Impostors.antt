@@ -1,7 +1,8 @@
 -- IMPOSTORS: readings, habits and services that are nearly right. None of them meets demand 3.
 use mathlib.Core.Path.{_≡_}
-use mathlib.Core.Bool.{Bool, true, false, not, _&&_}
+use mathlib.Core.Bool.{Bool, true, false, not, cond, _&&_}
 use mathlib.Core.List.{List, [], _∷_, _++_, map}
+use lib.Dec.{eqb}
 use lib.ListN.{take}
 use Rattle.lists.specs.Lists.{keep}
 use Rattle.kinds.specs.Tasks.{withCondition}
@@ -12,8 +13,8 @@ use Rattle.rules.specs.ResourceWaits.{letGo}
 use Rattle.rules.specs.Rings.{Ring}
 use Rattle.rules.specs.Steps.{Step, Outcome, withTasks, withQueue, keptBy}
 use Rattle.rules.specs.Serve.{Asked, serveOf}
-use Rattle.rules.specs.Reading.{Turn, Effect, NoEffect, Queues, Releases, Changes, Ends, Attaches, motherIn, effectOf}
-use Rattle.rules.specs.Reading.{Reading, nothing, readBy, reads, queueRead}
+use Rattle.rules.specs.Reading.{Turn, Effect, NoEffect, Queues, Releases, Changes, Ends, Attaches, effectOf}
+use Rattle.rules.specs.Reading.{Reading, nothing, readBy, reads, queueRead, breaks}
 use Rattle.rules.specs.DemandThree.{Run, Fresh, Demand3}
 use Rattle.history.specs.Samples.{turnsBy, comesTo, start}
 
@@ -34,11 +35,24 @@ presses (Attaches m n) q = false
 -- no task queued while an earlier request of its lacked control
 abbrev pub weakHabit : Reading → List Turn → Bool
 weakHabit r [] = true
-weakHabit r (u ∷ us) = not (presses (effectOf (motherIn (r .links)) u) (r .queue)) && weakHabit (reads r u) us
+weakHabit r (u ∷ us) = not (presses (effectOf r u) (r .queue)) && weakHabit (reads r u) us
+
+-- an ENQ was queued only where the answer is 0: HAVE's 4 is not heard
+abbrev pub deafHabit : Reading → List Turn → Bool
+deafHabit r [] = true
+deafHabit r (u ∷ us) = not (eqb (u .number) 0 && breaks (effectOf r u) (r .queue)) && deafHabit (reads r u) us
 
 -- A READING: the queue that any run leaves
 abbrev pub Tells : (List Turn → List Entry) → Type 0
 Tells told = (s t : Step) (us : List Turn) → Fresh s → Run s us t → t .queue ≡ told us
+
+-- the queue that is read where effects are heard in some other way
+abbrev readingBy : (Turn → Effect → Effect) → Reading → List Turn → Reading
+readingBy hears r [] = r
+readingBy hears r (u ∷ us) = readingBy hears (readBy r (hears u (effectOf r u))) us
+
+abbrev readBut : (Turn → Effect → Effect) → List Turn → List Entry
+readBut hears us = readingBy hears nothing us .queue
 
 -- CHNG is not heard
 abbrev pub unheard : Effect → Effect
@@ -49,12 +63,34 @@ unheard (Changes t ns) = NoEffect
 unheard (Ends who) = Ends who
 unheard (Attaches m n) = Attaches m n
 
-abbrev pub deafReading : Reading → List Turn → Reading
-deafReading r [] = r
-deafReading r (u ∷ us) = deafReading (readBy r (unheard (effectOf (motherIn (r .links)) u))) us
-
 abbrev pub deafRead : List Turn → List Entry
-deafRead us = deafReading nothing us .queue
+deafRead us = readBut (λ u ev. unheard ev) us
+
+-- what is queued is not heard
+abbrev unqueued : Effect → Effect
+unqueued NoEffect = NoEffect
+unqueued (Queues t asks) = NoEffect
+unqueued (Releases t ns) = Releases t ns
+unqueued (Changes t ns) = Changes t ns
+unqueued (Ends who) = Ends who
+unqueued (Attaches m n) = Attaches m n
+
+-- HAVE's 4 is not heard
+abbrev pub deafToFour : List Turn → List Entry
+deafToFour us = readBut (λ u ev. cond (eqb (u .number) 4) (unqueued ev) ev) us
+
+-- of whatever is queued the whole list is
+abbrev wholly : Turn → Effect → Effect
+wholly u NoEffect = NoEffect
+wholly u (Queues t asks) = Queues t (u .names .asks)
+wholly u (Releases t ns) = Releases t ns
+wholly u (Changes t ns) = Changes t ns
+wholly u (Ends who) = Ends who
+wholly u (Attaches m n) = Attaches m n
+
+-- HAVE skips nothing
+abbrev pub skipsNothing : List Turn → List Entry
+skipsNothing us = readBut wholly us
 
 -- A SERVICE: demand 3 of whatever is asked of it from a fresh step on
 abbrev pub Meets : (Step → Asked → Outcome Step) → Type 0

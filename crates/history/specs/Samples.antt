@@ -4,7 +4,7 @@ use mathlib.Core.Bool.{true}
 use mathlib.Core.List.{List, [], _∷_, map}
 use lib.IntN.{pos}
 use Rattle.kinds.specs.declared.tasks.MaybeEcb.the-variants.{NoEcb}
-use Rattle.kinds.specs.declared.requests.Ret.the-variants.{None, Chng}
+use Rattle.kinds.specs.declared.requests.Ret.the-variants.{None, Have, Chng}
 use Rattle.kinds.specs.declared.requests.DeqRet.the-variants.{None as DeqNone}
 use Rattle.rules.specs.Names.{Resource}
 use Rattle.rules.specs.Control.{Entry, owners}
@@ -63,6 +63,25 @@ crossed =
     ∷ enq 3 None 0 (exc y ∷ [])
     ∷ enq 2 None 0 (exc y ∷ [])
     ∷ enq 3 None 0 (exc x ∷ [])
+    ∷ []
+
+-- the same with HAVE, whose lists begin with what they have: their own is skipped, the other's queued, and the answer 4
+abbrev pub haveCrossed : List Asked
+haveCrossed =
+    daughter 1 ∷ daughter 1
+    ∷ enq 2 None 0 (exc x ∷ [])
+    ∷ enq 3 None 0 (exc y ∷ [])
+    ∷ enq 2 Have 2 (exc x ∷ exc y ∷ [])
+    ∷ enq 3 Have 2 (exc y ∷ exc x ∷ [])
+    ∷ []
+
+-- 2 owns x, 3 waits for it, and 2 asks for what it has: the answer is 4, and nothing is queued
+abbrev pub haveSkipped : List Asked
+haveSkipped =
+    daughter 1 ∷ daughter 1
+    ∷ enq 2 None 0 (exc x ∷ [])
+    ∷ enq 3 None 0 (exc x ∷ [])
+    ∷ enq 2 Have 1 (shr x ∷ [])
     ∷ []
 
 -- 2 owns x and its daughter 5 owns y; 3 waits for x and 4 for y

@@ -73,10 +73,12 @@ EndsWith us c t = (c ≡ jobStepTask) ⊎ Below us c highestTask t
 abbrev pub Has : Resource → Names → Type 0
 Has n l = some (λ (a : Ask). sameName (a .name) n) (l .asks) ≡ true
 
--- an ENQ of t with NONE, USE or HAVE, answered 0
+-- an ENQ of t with NONE or USE, answered 0, or with HAVE, answered 0 or 4: HAVE skips a name only where t is queued for
+-- it already
 pub data Queued (t : ℕ) (n : Resource) (u : Turn) : Type 0 where
-  enq : (ret : Ret) → u .request ≡ Enq (task t) ret → (ret ≡ None) ⊎ ((ret ≡ Use) ⊎ (ret ≡ Have)) → u .number ≡ 0
-      → Has n (u .names) → Queued t n u
+  enq : (ret : Ret) → u .request ≡ Enq (task t) ret → (ret ≡ None) ⊎ (ret ≡ Use) → u .number ≡ 0 → Has n (u .names)
+      → Queued t n u
+  have : u .request ≡ Enq (task t) Have → (u .number ≡ 0) ⊎ (u .number ≡ 4) → Has n (u .names) → Queued t n u
 
 -- a DEQ of t, answered 0 or 4
 pub data Released (t : ℕ) (n : Resource) (u : Turn) : Type 0 where

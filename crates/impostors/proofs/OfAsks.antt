@@ -8,7 +8,7 @@ use lib.Dec.{eqb, leb, ltb}
 use lib.ListN.{length, take, getD, replicate}
 use denote.Ref.{RefT, now, at-last}
 use Rattle.lists.specs.Pick.{pick}
-use Rattle.lists.specs.Lists.{every, some}
+use Rattle.lists.specs.Lists.{every, some, none}
 use Rattle.lists.specs.Tables.{padded}
 use Rattle.kinds.specs.Limits.{longestList, mostEntries}
 use Rattle.kinds.specs.declared.numbers.TaskNumber.{TaskNumber}
@@ -25,7 +25,7 @@ use Rattle.rules.specs.Control.{Entry, hasEntry, available, holding}
 use Rattle.rules.specs.Tests.{refuse, fail, firstOf}
 use Rattle.rules.specs.Codes.{allZero, writtenOn}
 use Rattle.rules.specs.Table.{named, shr, exc, counted}
-use Rattle.rules.specs.Enq.{entryFor, queuesAll, enqGood, duplicated, tooFewFree, enqCode, enqCodes, enqCodesDue}
+use Rattle.rules.specs.Enq.{entryFor, enqGood, duplicated, toQueue, tooFewFree, enqCode, enqCodes, enqCodesDue}
 use Rattle.rules.specs.Deq.{deqCodes, deqCodesDue, unentered}
 use Rattle.rules.specs.SystemCases.{beginning, sysdsn, sysdsnWith}
 use Rattle.history.specs.Samples.{x, y}
@@ -39,6 +39,7 @@ use Rattle.asks.proofs.codes.deq_codes_due.Reads as deq-codes-due
 use Rattle.asks.proofs.codes.enq_codes.Reads as enq-codes
 use Rattle.asks.proofs.codes.deq_codes.Reads as deq-codes
 use Rattle.asks.proofs.codes.all_zero.Reads as all-zero
+use Rattle.asks.proofs.codes.skipped.Reads as skipped
 use Rattle.asks.proofs.codes.write.Reads as write
 use Rattle.asks.proofs.verdict.enq_verdict.Reads as enq-verdict
 use Rattle.asks.proofs.verdict.deq_verdict.Reads as deq-verdict
@@ -50,6 +51,7 @@ use Rattle.impostors.specs.Wrong.{RuledOut, wrong-at, RuledOutWith, wron
 use Rattle.impostors.specs.Parts.{ownerAndWaiter, lent, verdictNumber}
 use Rattle.impostors.specs.Verdicts.{Judge, bad, system, short, afterCodes, keepingOff, firstOnly, twoBytes}
 use Rattle.impostors.specs.Verdicts.{inMinorToo, byName, unlessTest, after104, before101, deqKeepingOff}
+use Rattle.impostors.specs.Haves.{fullBy, wholeList, noneFree}
 
 -- the code behind n others
 abbrev code : ℕ → Codes → ℕ
@@ -63,9 +65,17 @@ pub enq-codes-due-under-none : RuledOut (λ k. fits-Ret ⊗ fits-end) enq-codes-
 unfolding tables-open
 enq-codes-due-under-none = wrong-at tt (None, tt) refl tt (λ b. b) refl refl
 
+-- all but those that may queue
+abbrev everywhereElse : Ret → Bool
+everywhereElse None = false
+everywhereElse Test = true
+everywhereElse Use = false
+everywhereElse Have = false
+everywhereElse Chng = true
+
 -- codes are due only where nothing is queued, and so not under USE
 pub enq-codes-due-where-nothing-is-queued : RuledOut (λ k. fits-Ret ⊗ fits-end) enq-codes-due.Pre enq-codes-due.Post
-    (λ k a. not (queuesAll (a .0)))
+    (λ k a. everywhereElse (a .0))
 unfolding tables-open
 enq-codes-due-where-nothing-is-queued = wrong-at tt (Use, tt) refl tt not refl refl
 
@@ -160,6 +170,18 @@ pub all-zero-but-the-last : RuledOut (λ k. fits-Codes ⊗ fits-u32 ⊗ fits-end
 unfolding tables-open
 all-zero-but-the-last = wrong-at tt (codes (0 ∷ 8 ∷ []), (2, tt)) refl (omega arith) (λ b. b) refl refl
 
+-- only a code 8 is skipped: a 4 is not
+pub skipped-8-only : RuledOut (λ k. fits-Codes ⊗ fits-end) skipped.Pre skipped.Post
+    (λ k a. record { of = map (eqb 8) (a .0 .bytes) })
+unfolding tables-open
+skipped-8-only = wrong-at tt (codes (4 ∷ []), tt) refl tt (λ f. not (getD (f .of) 0 true)) refl refl
+
+-- the names with code 0 are skipped: of 8 and 0, the second
+pub skipped-the-zeros : RuledOut (λ k. fits-Codes ⊗ fits-end) skipped.Pre skipped.Post
+    (λ k a. record { of = map (eqb 0) (a .0 .bytes) })
+unfolding tables-open
+skipped-the-zeros = wrong-at tt (codes (8 ∷ 0 ∷ []), tt) refl tt (λ f. getD (f .of) 1 false) refl refl
+
 -- the area holds these bytes at the end
 abbrev leaves : Codes × (ℕ × (RefT (List ℕ) × Unit {0})) → List ℕ
     → Unit {0} × (Codes × (ℕ × (RefT (List ℕ) × Unit {0})))
@@ -242,7 +264,7 @@ oneFree q c ret l room =
     ∷ system (asksSystem l)
     ∷ short (enqCodesDue ret) room l
     ∷ fail DuplicateEnq (duplicated ret q c l)
-    ∷ refuse NoEntryFree (queuesAll ret && allZero (enqCodes ret q c l) && leb mostEntries (length q))
+    ∷ refuse NoEntryFree (not (none (toQueue ret q c l)) && leb mostEntries (length q))
     ∷ [])
 
 -- 127 entries, and 2 asks for two names
@@ -270,6 +292,22 @@ pub enq-verdict-105-before-201 : RuledOut (λ k. fits-Asks fits-Ret) enq-verdict
 unfolding tables-open
 enq-verdict-105-before-201 =
     wrong-at tt (storedEntries (long 128), (task 1, (None, (namesOf (exc x ∷ []), (0, tt))))) refl (omega arith)
+    (λ v. eqb (verdictNumber v) 105) refl refl
+
+-- HAVE, document 02 §3: 127 entries, of task 1, which asks for one of them and for y
+pub enq-verdict-105-by-the-whole-list : RuledOut (λ k. fits-Asks fits-Ret) enq-verdict.Pre enq-verdict.Post
+    (λ k a. verdictBy (fullBy wholeList) a)
+unfolding tables-open
+enq-verdict-105-by-the-whole-list =
+    wrong-at tt (storedEntries (long 127), (task 1, (Have, (namesOf (exc x ∷ exc y ∷ []), (2, tt))))) refl (omega arith)
+    (λ v. eqb (verdictNumber v) 105) refl refl
+
+-- 128 entries, and task 1 asks for one of them
+pub enq-verdict-105-with-nothing-to-queue : RuledOut (λ k. fits-Asks fits-Ret) enq-verdict.Pre enq-verdict.Post
+    (λ k a. verdictBy (fullBy noneFree) a)
+unfolding tables-open
+enq-verdict-105-with-nothing-to-queue =
+    wrong-at tt (storedEntries (long 128), (task 1, (Have, (namesOf (exc x ∷ []), (1, tt))))) refl (omega arith)
     (λ v. eqb (verdictNumber v) 105) refl refl
 
 -- 110, wrong in each of the ways of Verdicts: on an empty queue task 1 asks for these names, with so many bytes of area

@@ -20,15 +20,15 @@ use Rattle.kinds.specs.declared.requests.DeqRet.the-variants.{None as DeqNone, 
 use Rattle.kinds.specs.declared.replies.Gate.the-variants.{Open}
 use Rattle.kinds.specs.declared.replies.Reply.the-variants.{Done}
 use Rattle.kinds.specs.declared.replies.Verdict.{Verdict}
-use Rattle.rules.specs.Names.{Names}
+use Rattle.rules.specs.Names.{Names, sameName}
 use Rattle.rules.specs.Control.{Entry, hasEntry}
 use Rattle.rules.specs.Codes.{allZero, writtenOn}
 use Rattle.rules.specs.Family.{conditionOf}
-use Rattle.rules.specs.Steps.{Step}
+use Rattle.rules.specs.Steps.{Step, Outcome, withTasks, withQueue}
 use Rattle.rules.specs.Sound.{soundStep}
 use Rattle.rules.specs.Admission.{gateOf, onGo, codesThrough}
-use Rattle.rules.specs.Table.{exc}
-use Rattle.rules.specs.Enq.{enqCodes, enqVerdict, enqWritten}
+use Rattle.rules.specs.Table.{exc, shr}
+use Rattle.rules.specs.Enq.{entryFor, enqCodes, enqVerdict, withTail, enqWritten}
 use Rattle.rules.specs.Deq.{deqCodes, deqVerdict, deqWritten}
 use Rattle.laws.specs.Running.{running-parts}
 use Rattle.history.specs.Samples.{start, x, y}
@@ -37,7 +37,7 @@ use Rattle.family.specs.Families.{familyOf}
 use Rattle.family.specs.declared.Family.{Family}
 use Rattle.queue.specs.Queues.{entriesIn, storedEntries, PackedEntries}
 use Rattle.queue.specs.declared.Queue.{Queue}
-use Rattle.claims.specs.Claiming.{Admits, enqChanged, enqBy, deqBy}
+use Rattle.claims.specs.Claiming.{Admits, requeuedTo, replyTo, enqBy, deqBy}
 use Rattle.claims.specs.declared.Claims.{Claims}
 use Rattle.claims.specs.declared.Claimed.{Claimed}
 use Rattle.claims.proofs.enq.claimed.Reads as claimed
@@ -45,7 +45,10 @@ use Rattle.claims.proofs.deq.given_up.Reads as given-up
 use Rattle.impostors.specs.Fitting.{_⊗_, fits-DeqRet, fits-Family, fits-NameList, fits-Queue, fits-Ret}
 use Rattle.impostors.specs.Fitting.{fits-TaskNumber, fits-end, fits-lent}
 use Rattle.impostors.specs.Opened.{tables-open}
-use Rattle.impostors.specs.Samples.{task, namesOf, after, owned as ownedRun, awaited as awaitedRun, sharedByOne}
+use Rattle.impostors.specs.Samples.{task, namesOf, after, z, owned as ownedRun, awaited as awaitedRun}
+use Rattle.impostors.specs.Samples.{sharedByOne, sharesAndOwns}
+use Rattle.impostors.specs.Haves.{ifHave, Doing, allOrNothing, skippedQueued, skipsNothing, lastFirst, madeSo}
+use Rattle.impostors.specs.Haves.{neverWaits, answersZero}
 use Rattle.impostors.specs.Parts.{lent}
 use Rattle.impostors.specs.Wrong.{RuledOutWith, wrong-result, wrong-area}
 
@@ -148,12 +151,12 @@ claimed-goes-on-without-control =
     (owned-packed, admits owned (task 2) refl refl refl)
     (λ r. isReady (conditionOf (r .tables .family .places) 2)) refl refl
 
--- only the first code has to be 0
+-- only the first code has to be 0, and all names are queued
 abbrev byFirstCode : Given Ret → Claims
 byFirstCode a =
     onGo (enqSays a)
     (pick (allZero (take 1 (enqCodesOf a)))
-    (enqChanged (ret a) (a .0) (a .1 .0) (caller a .0) (names a))
+    (requeuedTo (withTail (queue a) (caller a .0) (names a .asks)) (a .1 .0 .places))
     (before a))
     (before a)
 
@@ -181,6 +184,93 @@ claimed-chng-leaves-it-shared =
     wrong-result ([], tt) (on shared 1 Chng (namesOf (exc x ∷ [])) (238 ∷ [])) refl
     (shared-packed, admits shared (task 1) refl refl refl)
     (λ r. every (λ (e : Entry). not (e .exclusive)) (entriesIn (r .tables .queue))) refl refl
+
+-- HAVE, wrong in each of the ways of Haves: on a step that has these entries and tasks
+abbrev stepIn : Given Ret → Step
+stepIn a = withQueue (withTasks start (a .1 .0 .places)) (queue a)
+
+abbrev claimsIn : Step → Claims
+claimsIn s = record { queue = storedEntries (s .queue); family = familyOf (s .tasks) }
+
+abbrev havingBy : Outcome Step → Given Ret → Claimed
+havingBy o a = record {
+  verdict = enqSays a;
+  reply = onGo (enqSays a) (replyTo (eqb (o .number) 0)) Done;
+  tables = onGo (enqSays a) (claimsIn (o .tables)) (before a);
+}
+
+abbrev having : Doing → Given Ret → Claimed × Given Ret
+having f a =
+    (ifHave (ret a) (havingBy (f (stepIn a) (caller a .0) (names a)) a) (enqAnswer a), ends a (enqArea a))
+
+-- 1 shares x, and 2 owns y
+abbrev mixed : Step
+mixed = after start sharesAndOwns
+
+mixed-packed : PackedEntries (storedEntries (mixed .queue))
+unfolding tables-open
+mixed-packed = record { form = refl; room = omega arith }
+
+-- 1 asks for x exclusive, for y, and for z: the codes are 8, 0 and 0, and it waits for y
+abbrev asksMixed : Given Ret
+asksMixed = on mixed 1 Have (namesOf (exc x ∷ exc y ∷ shr z ∷ [])) (238 ∷ 238 ∷ 238 ∷ [])
+
+-- its entry for z is there
+abbrev hasZ : Claimed → Bool
+hasZ r = hasEntry (entriesIn (r .tables .queue)) 1 z
+
+-- the entry behind n others
+abbrev entryAt : ℕ → Claimed → Entry
+entryAt n r = getD (entriesIn (r .tables .queue)) n (entryFor 0 (exc x))
+
+pub claimed-have-all-or-nothing : RuledOutWith (λ k. fits-Given fits-Ret) claimed.Pre claimed.Post
+    (λ k a. having allOrNothing a)
+unfolding tables-open
+claimed-have-all-or-nothing =
+    wrong-result ([], tt) asksMixed refl (mixed-packed, admits mixed (task 1) refl refl refl) (λ r. not (hasZ r)) refl
+    refl
+
+pub claimed-have-queues-the-skipped : RuledOutWith (λ k. fits-Given fits-Ret) claimed.Pre claimed.Post
+    (λ k a. having skippedQueued a)
+unfolding tables-open
+claimed-have-queues-the-skipped =
+    wrong-result ([], tt) asksMixed refl (mixed-packed, admits mixed (task 1) refl refl refl) (λ r. not (hasZ r)) refl
+    refl
+
+pub claimed-have-skips-nothing : RuledOutWith (λ k. fits-Given fits-Ret) claimed.Pre claimed.Post
+    (λ k a. having skipsNothing a)
+unfolding tables-open
+claimed-have-skips-nothing =
+    wrong-result ([], tt) asksMixed refl (mixed-packed, admits mixed (task 1) refl refl refl)
+    (λ r. eqb (r .tables .queue .count) 5) refl refl
+
+pub claimed-have-last-first : RuledOutWith (λ k. fits-Given fits-Ret) claimed.Pre claimed.Post
+    (λ k a. having lastFirst a)
+unfolding tables-open
+claimed-have-last-first =
+    wrong-result ([], tt) asksMixed refl (mixed-packed, admits mixed (task 1) refl refl refl)
+    (λ r. sameName (entryAt 2 r .name) z) refl refl
+
+pub claimed-have-makes-exclusive : RuledOutWith (λ k. fits-Given fits-Ret) claimed.Pre claimed.Post
+    (λ k a. having madeSo a)
+unfolding tables-open
+claimed-have-makes-exclusive =
+    wrong-result ([], tt) asksMixed refl (mixed-packed, admits mixed (task 1) refl refl refl)
+    (λ r. entryAt 0 r .exclusive) refl refl
+
+pub claimed-have-never-waits : RuledOutWith (λ k. fits-Given fits-Ret) claimed.Pre claimed.Post
+    (λ k a. having neverWaits a)
+unfolding tables-open
+claimed-have-never-waits =
+    wrong-result ([], tt) asksMixed refl (mixed-packed, admits mixed (task 1) refl refl refl)
+    (λ r. isReady (conditionOf (r .tables .family .places) 1)) refl refl
+
+pub claimed-have-answers-0 : RuledOutWith (λ k. fits-Given fits-Ret) claimed.Pre claimed.Post
+    (λ k a. having answersZero a)
+unfolding tables-open
+claimed-have-answers-0 =
+    wrong-result ([], tt) asksMixed refl (mixed-packed, admits mixed (task 1) refl refl refl)
+    (λ r. eqb (numberOf (r .reply)) 0) refl refl
 
 -- NONE writes codes: 2 asks for y, with an area of one byte
 pub claimed-codes-under-none : RuledOutWith (λ k. fits-Given fits-Ret) claimed.Pre claimed.Post

@@ -1,12 +1,16 @@
 -- Wrong answers that the contracts of `entries` rule out.
 use mathlib.Core.Path.{refl}
-use mathlib.Core.Bool.{Bool, not, _||_}
-use mathlib.Core.List.{List, [], _∷_, _++_, map}
+use mathlib.Core.Bool.{Bool, true, false, not, _||_}
+use mathlib.Core.List.{List, [], _∷_, _++_, map, reverse}
 use Prim.Native.Nat.{ℕ}
 use native.Mathlib.Omega.{arith}
 use lib.Dec.{eqb}
 use lib.ListN.{take, getD}
-use Rattle.lists.specs.Lists.{keep, some}
+use Rattle.lists.specs.Lists.{keep, some, unskipped}
+use Rattle.lists.specs.Tables.{padded}
+use Rattle.kinds.specs.Limits.{longestList}
+use Rattle.kinds.specs.declared.numbers.TaskNumber.{TaskNumber}
+use Rattle.kinds.specs.declared.names.NameList.{NameList}
 use Rattle.rules.specs.Names.{Ask, namesOf, sameName}
 use Rattle.rules.specs.Control.{Entry, ofTask, hasEntry}
 use Rattle.rules.specs.Table.{shr, exc}
@@ -16,12 +20,13 @@ use Rattle.history.specs.Samples.{x, y}
 use Rattle.names.specs.Named.{namesIn}
 use Rattle.queue.specs.Queues.{entriesIn, storedEntries, PackedEntries}
 use Rattle.queue.specs.declared.Queue.{Queue}
+use Rattle.flags.specs.declared.Flags.{Flags}
 use Rattle.entries.proofs.deq.release.Reads as release
 use Rattle.entries.proofs.enq.with_tail.Reads as with-tail
 use Rattle.entries.proofs.enq.made_exclusive.Reads as made-exclusive
-use Rattle.impostors.specs.Fitting.{_⊗_, fits-NameList, fits-Queue, fits-TaskNumber, fits-end}
+use Rattle.impostors.specs.Fitting.{_⊗_, fits-Flags, fits-NameList, fits-Queue, fits-TaskNumber, fits-end}
 use Rattle.impostors.specs.Opened.{tables-open}
-use Rattle.impostors.specs.Samples.{task, namesOf as listOf}
+use Rattle.impostors.specs.Samples.{task, namesOf as listOf, z}
 use Rattle.impostors.specs.Wrong.{RuledOut, wrong-at}
 
 -- task 1 has x and y shared, and 2 has x shared
@@ -68,26 +73,66 @@ release-all-of-the-caller =
     wrong-at tt (storedEntries three, (task 1, (listOf (shr x ∷ []), tt))) refl (three-packed, omega arith)
     (λ q. not (hasEntry (entriesIn q) 1 y)) refl refl
 
+-- what is given to the tail: 2 asks for these names behind the three, of which those with a flag are skipped; that it
+-- fits, and the names that are left
+abbrev Tails : Type 0
+Tails = Queue × (TaskNumber × (NameList × (Flags × Unit {0})))
+
+abbrev fits-Tail : Tails → Bool
+fits-Tail = fits-Queue ⊗ fits-TaskNumber ⊗ fits-NameList ⊗ fits-Flags ⊗ fits-end
+
+abbrev tailOf : ℕ → List Ask → List Bool → Tails
+tailOf c l skip =
+    (storedEntries three, (task c, (listOf l, (record { of = padded longestList false skip }, tt))))
+
+abbrev left : Tails → List Ask
+left a = unskipped (a .1 .1 .1 .0 .of) (namesIn (a .1 .1 .0) .asks)
+
 -- the new entries come to the front: 2 asks for y behind task 1
 pub with-tail-at-the-front :
-    RuledOut (λ k. fits-Queue ⊗ fits-TaskNumber ⊗ fits-NameList ⊗ fits-end) with-tail.Pre with-tail.Post
-    (λ k a. storedEntries (map (entryFor (a .1 .0 .0)) (namesIn (a .1 .1 .0) .asks) ++ entriesIn (a .0)))
+    RuledOut (λ k. fits-Tail) with-tail.Pre with-tail.Post
+    (λ k a. storedEntries (map (entryFor (a .1 .0 .0)) (left a) ++ entriesIn (a .0)))
 unfolding tables-open
 with-tail-at-the-front =
-    wrong-at tt (storedEntries three, (task 2, (listOf (shr y ∷ []), tt))) refl
-    (three-packed, omega arith, omega arith, refl)
+    wrong-at tt (tailOf 2 (shr y ∷ []) (false ∷ [])) refl (three-packed, omega arith, omega arith, refl)
     (λ q. eqb (entryAt 0 q .task) 2) refl refl
 
 -- every entry is shared: 2 asks for y exclusive
 pub with-tail-all-shared :
-    RuledOut (λ k. fits-Queue ⊗ fits-TaskNumber ⊗ fits-NameList ⊗ fits-end) with-tail.Pre with-tail.Post
-    (λ k a. storedEntries (entriesIn (a .0)
-    ++ map (λ (w : Ask). entryFor (a .1 .0 .0) (shr (w .name))) (namesIn (a .1 .1 .0) .asks)))
+    RuledOut (λ k. fits-Tail) with-tail.Pre with-tail.Post
+    (λ k a. storedEntries (entriesIn (a .0) ++ map (λ (w : Ask). entryFor (a .1 .0 .0) (shr (w .name))) (left a)))
 unfolding tables-open
 with-tail-all-shared =
-    wrong-at tt (storedEntries three, (task 2, (listOf (exc y ∷ []), tt))) refl
-    (three-packed, omega arith, omega arith, refl)
+    wrong-at tt (tailOf 2 (exc y ∷ []) (false ∷ [])) refl (three-packed, omega arith, omega arith, refl)
     (λ q. not (entryAt 3 q .exclusive)) refl refl
+
+-- nothing is skipped: 2 asks for y and z, and y is skipped
+pub with-tail-skips-nothing :
+    RuledOut (λ k. fits-Tail) with-tail.Pre with-tail.Post
+    (λ k a. storedEntries (withTail (entriesIn (a .0)) (a .1 .0 .0) (namesIn (a .1 .1 .0) .asks)))
+unfolding tables-open
+with-tail-skips-nothing =
+    wrong-at tt (tailOf 2 (exc y ∷ exc z ∷ []) (true ∷ false ∷ [])) refl (three-packed, omega arith, omega arith, refl)
+    (λ q. hasEntry (entriesIn q) 2 y) refl refl
+
+-- the skipped are queued, and the others left out: of y and z, y
+pub with-tail-of-the-skipped :
+    RuledOut (λ k. fits-Tail) with-tail.Pre with-tail.Post
+    (λ k a. storedEntries (withTail (entriesIn (a .0)) (a .1 .0 .0)
+    (unskipped (map not (a .1 .1 .1 .0 .of)) (namesIn (a .1 .1 .0) .asks))))
+unfolding tables-open
+with-tail-of-the-skipped =
+    wrong-at tt (tailOf 2 (exc y ∷ exc z ∷ []) (true ∷ false ∷ [])) refl (three-packed, omega arith, omega arith, refl)
+    (λ q. hasEntry (entriesIn q) 2 y) refl refl
+
+-- the last of the names comes first: 2 asks for y and z
+pub with-tail-last-first :
+    RuledOut (λ k. fits-Tail) with-tail.Pre with-tail.Post
+    (λ k a. storedEntries (withTail (entriesIn (a .0)) (a .1 .0 .0) (reverse (left a))))
+unfolding tables-open
+with-tail-last-first =
+    wrong-at tt (tailOf 2 (exc y ∷ exc z ∷ []) (false ∷ false ∷ [])) refl (three-packed, omega arith, omega arith, refl)
+    (λ q. sameName (entryAt 3 q .name) z) refl refl
 
 -- the entries for the names become exclusive, whoever's they
 -- are: task 1 asks for x, and 2's entry becomes exclusive too
@@ -114,7 +159,7 @@ made-exclusive-every-name =
 pub made-exclusive-at-the-tail :
     RuledOut (λ k. fits-Queue ⊗ fits-TaskNumber ⊗ fits-NameList ⊗ fits-end) made-exclusive.Pre made-exclusive.Post
     (λ k a. storedEntries (withTail (released (a .1 .0 .0) (namesOf (namesIn (a .1 .1 .0))) (entriesIn (a .0)))
-    (a .1 .0 .0) (namesIn (a .1 .1 .0))))
+    (a .1 .0 .0) (namesIn (a .1 .1 .0) .asks)))
 unfolding tables-open
 made-exclusive-at-the-tail =
     wrong-at tt (storedEntries three, (task 1, (listOf (exc x ∷ []), tt))) refl (three-packed, omega arith)

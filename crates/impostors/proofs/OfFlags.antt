@@ -1,7 +1,7 @@
 -- Wrong answers that the contracts of `flags` rule out.
 use mathlib.Core.Path.{refl}
 use mathlib.Core.Bool.{Bool, true, false, not, _&&_}
-use mathlib.Core.List.{List, [], _∷_}
+use mathlib.Core.List.{List, [], _∷_, map}
 use Prim.Native.Nat.{_+_}
 use native.Mathlib.Omega.{arith}
 use lib.ListN.{take, getD}
@@ -15,10 +15,11 @@ use Rattle.rules.specs.Enq.{entryFor}
 use Rattle.history.specs.Samples.{x}
 use Rattle.names.specs.Named.{namesIn}
 use Rattle.queue.specs.Queues.{entriesIn, storedEntries}
-use Rattle.flags.specs.Flagging.{flagsOf, someSet, allSet}
+use Rattle.flags.specs.Flagging.{flagsOf, someSet, allSet, allSetBut}
 use Rattle.flags.specs.declared.Flags.{Flags}
 use Rattle.flags.proofs.some_set.Reads as some-set
 use Rattle.flags.proofs.all_set.Reads as all-set
+use Rattle.flags.proofs.all_set_but.Reads as all-set-but
 use Rattle.flags.proofs.entered.Reads as entered
 use Rattle.flags.proofs.available.Reads as available
 use Rattle.flags.proofs.lead.sole.Reads as sole
@@ -63,6 +64,22 @@ pub all-set-of-all-16 : RuledOut (λ k. fits-Flags ⊗ fits-u32 ⊗ fits-end) al
     (λ k a. every (λ (b : Bool). b) (a .0 .of))
 unfolding tables-open
 all-set-of-all-16 = wrong-at tt (flags true false, (1, tt)) refl (omega arith) not refl refl
+
+-- the skipped count too: of two, the second is not set, and skipped
+pub all-set-but-none-skipped :
+    RuledOut (λ k. fits-Flags ⊗ fits-Flags ⊗ fits-u32 ⊗ fits-end) all-set-but.Pre all-set-but.Post
+    (λ k a. allSet (a .0) (a .1 .1 .0))
+unfolding tables-open
+all-set-but-none-skipped =
+    wrong-at tt (flags true false, (flags false true, (2, tt))) refl (omega arith) not refl refl
+
+-- only the skipped count: of two, the first is not set, and not skipped
+pub all-set-but-of-the-skipped :
+    RuledOut (λ k. fits-Flags ⊗ fits-Flags ⊗ fits-u32 ⊗ fits-end) all-set-but.Pre all-set-but.Post
+    (λ k a. allSetBut (a .0) (record { of = map not (a .1 .0 .of) }) (a .1 .1 .0))
+unfolding tables-open
+all-set-but-of-the-skipped =
+    wrong-at tt (flags false true, (flags false true, (2, tt))) refl (omega arith) (λ b. b) refl refl
 
 -- anybody's entry counts: 4 asks for x
 pub entered-by-anybody :

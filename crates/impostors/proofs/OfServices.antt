@@ -27,7 +27,7 @@ use Rattle.kinds.specs.declared.tasks.MaybeEcb.the-variants.{NoEcb}
 use Rattle.kinds.specs.declared.requests.Request.{Request}
 use Rattle.kinds.specs.declared.requests.Request.the-variants.{Attach, End, Enq, Getmain}
 use Rattle.kinds.specs.declared.requests.Ret.{Ret}
-use Rattle.kinds.specs.declared.requests.Ret.the-variants.{None, Test}
+use Rattle.kinds.specs.declared.requests.Ret.the-variants.{None, Test, Have}
 use Rattle.kinds.specs.declared.requests.DeqRet.{DeqRet}
 use Rattle.kinds.specs.declared.requests.DeqRet.the-variants.{None as DeqNone, Have as DeqHave}
 use Rattle.kinds.specs.declared.replies.Refusal.the-variants.{OutOfRange}
@@ -37,7 +37,7 @@ use Rattle.kinds.specs.declared.replies.Gate.{Gate}
 use Rattle.kinds.specs.declared.replies.Gate.the-variants.{Open, Shut}
 use Rattle.names.specs.Named.{namesIn}
 use Rattle.events.specs.Blocks.{ecbsIn}
-use Rattle.rules.specs.Names.{Ask, Names, namesOf as resources}
+use Rattle.rules.specs.Names.{Ask, Names, sameName, namesOf as resources}
 use Rattle.rules.specs.Control.{Entry}
 use Rattle.rules.specs.Rings.{waitsFor, leadsBy, tasksQueued, stuck as stuckOf}
 use Rattle.rules.specs.Reports.{StuckTask, firstStuckAt, stuckItem, standing, queuesOf, queueItem, ItemList, itemised}
@@ -46,7 +46,7 @@ use Rattle.rules.specs.Reports.{queuesReport}
 use Rattle.rules.specs.Family.{place, withPlace, conditionOf, below}
 use Rattle.rules.specs.Steps.{Step, Outcome, Served, done, doneWith, refused, keptBy, overStep, withTasks, withQueue}
 use Rattle.rules.specs.Steps.{withEcbs, withAreas, untouched}
-use Rattle.rules.specs.Table.{named, shr, exc}
+use Rattle.rules.specs.Table.{named, shr, exc, counted}
 use Rattle.rules.specs.SystemCases.{beginning, sysdsn, sysdsnWith}
 use Rattle.rules.specs.Alike.{kindOf}
 use Rattle.rules.specs.Tests.{refuse, fail, firstOf}
@@ -71,7 +71,7 @@ use Rattle.rules.specs.Dispatch.{dispatchOf}
 use Rattle.rules.specs.Sound.{soundStep}
 use Rattle.rules.specs.Fresh.{freshStep}
 use Rattle.rules.specs.Serve.{serviceOf}
-use Rattle.history.specs.Samples.{start, x}
+use Rattle.history.specs.Samples.{start, x, y}
 use Rattle.services.specs.Kept.{stepOf, tablesOf, withClaims, soundb, answered, answeredWith, saidWith}
 use Rattle.services.specs.declared.Tables.{Tables}
 use Rattle.services.specs.declared.Answer.{Answer}
@@ -98,7 +98,8 @@ use Rattle.impostors.specs.Fitting.{fits-NameList, fits-Request, fits-Re
 use Rattle.impostors.specs.Opened.{tables-open}
 use Rattle.impostors.specs.Wrong.{told-apart, RuledOut, wrong-at, RuledOutWith, wrong-with, Heeds, heeds}
 use Rattle.impostors.specs.Samples.{Asking, task, ecb, namesOf, ecbsOf, after, oneDaughter, twoGenerations}
-use Rattle.impostors.specs.Samples.{withEcb, daughterOwns, owned, awaited, postedOnce, waitedOn, oneArea}
+use Rattle.impostors.specs.Samples.{withEcb, daughterOwns, owned, awaited, sharesAndOwns, z, postedOnce, waitedOn}
+use Rattle.impostors.specs.Samples.{oneArea}
 use Rattle.impostors.specs.Samples.{ringOfTwo, behindAnother, sharedAhead, ringOfLast}
 use Rattle.impostors.specs.Parts.{lent, address, lastBest, incomplete}
 use Rattle.impostors.specs.Impostors.{byService}
@@ -106,6 +107,8 @@ use Rattle.impostors.specs.Answers.{answerOf, answering, but, butServed,
 use Rattle.impostors.proofs.OfSoundness.{Given, judged as soundBy, lengthsOnly}
 use Rattle.impostors.specs.Verdicts.{Judge, keepingOff, never110, firstOnly, twoBytes, inMinorToo, byName}
 use Rattle.impostors.specs.Verdicts.{unlessTest, after104, before101, deqKeepingOff, enqJudged, deqJudged}
+use Rattle.impostors.specs.Haves.{Doing, allOrNothing, skippedQueued, skipsNothing, lastFirst, madeSo, neverWaits}
+use Rattle.impostors.specs.Haves.{answersZero, enqDoing, fullBy, wholeList, noneFree}
 
 -- the tables after a run from a fresh step
 abbrev tables : List Asking → Tables
@@ -403,6 +406,82 @@ unfolding tables-open
 enq-test-passes =
     wrong-with ([], tt) (asking Test (shr sysdsn ∷ []) (238 ∷ [])) refl tt (λ o. eqb (getD (o .codes) 0 238) 0) refl
     refl
+
+-- HAVE, document 02 §3: ENQ that does what is wrong in one of the ways of Haves. 1 shares x, 2 owns y, and 1 asks for x
+-- exclusive, for y, and for z: the codes are 8, 0 and 0, and it waits for y.
+abbrev enqHaving : Doing → Coded Ret → Answer × Coded Ret
+enqHaving f a = coding a (λ s area. enqDoing f s (a .1 .0) (a .1 .1 .0) (namesIn (a .1 .1 .1 .0)) area)
+
+abbrev asksMixed : Coded Ret
+asksMixed =
+    (tables sharesAndOwns, (task 1, (Have, (namesOf (exc x ∷ exc y ∷ shr z ∷ []), (lent (238 ∷ 238 ∷ 238 ∷ []), tt)))))
+
+-- so many entries are queued
+abbrev many : ℕ → Served Tables → Bool
+many n o = eqb (o .outcome .tables .queue .count) n
+
+-- the entry behind n others
+abbrev entryBehind : ℕ → Served Tables → Entry
+entryBehind n o = getD (stepOf (o .outcome .tables) .queue) n (entryFor 0 (exc x))
+
+-- all or nothing, as document 01 alone would have it: no entry comes
+pub enq-have-all-or-nothing : RuledOutWith (λ k. fits-Coded fits-Ret) enq.Pre enq.Post (λ k a. enqHaving allOrNothing a)
+unfolding tables-open
+enq-have-all-or-nothing = wrong-with ([], tt) asksMixed refl tt (many 2) refl refl
+
+-- the skipped are queued, and the others left out: one entry comes
+pub enq-have-queues-the-skipped : RuledOutWith (λ k. fits-Coded fits-Ret) enq.Pre enq.Post
+    (λ k a. enqHaving skippedQueued a)
+unfolding tables-open
+enq-have-queues-the-skipped = wrong-with ([], tt) asksMixed refl tt (many 3) refl refl
+
+-- nothing is skipped: three entries come
+pub enq-have-skips-nothing : RuledOutWith (λ k. fits-Coded fits-Ret) enq.Pre enq.Post (λ k a. enqHaving skipsNothing a)
+unfolding tables-open
+enq-have-skips-nothing = wrong-with ([], tt) asksMixed refl tt (many 5) refl refl
+
+-- list order is lost: z comes before y
+pub enq-have-last-first : RuledOutWith (λ k. fits-Coded fits-Ret) enq.Pre enq.Post (λ k a. enqHaving lastFirst a)
+unfolding tables-open
+enq-have-last-first =
+    wrong-with ([], tt) asksMixed refl tt (λ o. sameName (entryBehind 2 o .name) z) refl refl
+
+-- the skipped shared entry for x is made exclusive
+pub enq-have-makes-exclusive : RuledOutWith (λ k. fits-Coded fits-Ret) enq.Pre enq.Post (λ k a. enqHaving madeSo a)
+unfolding tables-open
+enq-have-makes-exclusive = wrong-with ([], tt) asksMixed refl tt (λ o. entryBehind 0 o .exclusive) refl refl
+
+-- 1 is not made to wait
+pub enq-have-never-waits : RuledOutWith (λ k. fits-Coded fits-Ret) enq.Pre enq.Post (λ k a. enqHaving neverWaits a)
+unfolding tables-open
+enq-have-never-waits = wrong-with ([], tt) asksMixed refl tt (λ o. runs 1 (o .outcome .tables)) refl refl
+
+-- 0 is answered, where a code is 8
+pub enq-have-answers-0 : RuledOutWith (λ k. fits-Coded fits-Ret) enq.Pre enq.Post (λ k a. enqHaving answersZero a)
+unfolding tables-open
+enq-have-answers-0 = wrong-with ([], tt) asksMixed refl tt (λ o. eqb (o .outcome .number) 0) refl refl
+
+-- so many entries of task 1, which asks by HAVE for these names
+abbrev fullAsking : ℕ → List Ask → List ℕ → Coded Ret
+fullAsking n l area = (
+  tablesOf (withQueue start (counted (λ i. entryFor 1 (exc (named 88 (i ∷ [])))) 1 n)),
+  (task 1, (Have, (namesOf l, (lent area, tt)))),
+)
+
+-- 105 by the whole list: 127 entries, and one of them and y are asked for
+pub enq-105-by-the-whole-list : RuledOutWith (λ k. fits-Coded fits-Ret) enq.Pre enq.Post
+    (λ k a. enqBy (fullBy wholeList) a)
+unfolding tables-open
+enq-105-by-the-whole-list =
+    wrong-with ([], tt) (fullAsking 127 (exc x ∷ exc y ∷ []) (238 ∷ 238 ∷ [])) refl tt
+    (λ o. eqb (o .outcome .number) 105) refl refl
+
+-- 105 with nothing to queue: 128 entries, and one of them is asked for
+pub enq-105-with-nothing-to-queue : RuledOutWith (λ k. fits-Coded fits-Ret) enq.Pre enq.Post
+    (λ k a. enqBy (fullBy noneFree) a)
+unfolding tables-open
+enq-105-with-nothing-to-queue =
+    wrong-with ([], tt) (fullAsking 128 (exc x ∷ []) (238 ∷ [])) refl tt (λ o. eqb (o .outcome .number) 105) refl refl
 
 -- DEQ
 

@@ -5,5 +5,6 @@ pub mod Samples
 pub mod Parts
 pub mod Answers
 pub mod Verdicts
+pub mod Haves
 pub mod Impostors
 pub mod Slips

@@ -103,7 +103,7 @@ abbrev pub allDone : Step → List Asking → Bool
 allDone s [] = true
 allDone s (a ∷ l) = eqb (ruled s a .outcome .number) 0 && allDone (ruled s a .outcome .tables) l
 
-abbrev z : Resource
+abbrev pub z : Resource
 z = named 90 (1 ∷ [])
 
 -- RUNS from a fresh step, 200/150
@@ -167,6 +167,10 @@ bothAsked =
 -- 1 shares x
 abbrev pub sharedByOne : List Asking
 sharedByOne = enq 1 None 0 (shr x ∷ []) ∷ []
+
+-- 1 shares x, and 2 owns y
+abbrev pub sharesAndOwns : List Asking
+sharesAndOwns = daughter 1 ∷ enq 1 None 0 (shr x ∷ []) ∷ enq 2 None 0 (exc y ∷ []) ∷ []
 
 -- 2, who has ECB 10, has a daughter 3; and 3 owns x, for which 4, a daughter of 1, waits
 abbrev pub motherWithEcb : List Asking
@@ -244,5 +248,6 @@ ringOfLast =
 abbrev pub runs : List (List Asking)
 runs =
     oneDaughter ∷ twoGenerations ∷ withEcb ∷ motherWithEcb ∷ undetached ∷ endedOnce
-    ∷ daughterOwns ∷ owned ∷ awaited ∷ sharedByOne ∷ sharedByTwo ∷ behindFour ∷ bothAsked ∷ daughterHoldsBack
-    ∷ postedOnce ∷ waitedOn ∷ oneArea ∷ midPage ∷ ringOfTwo ∷ behindAnother ∷ sharedAhead ∷ ringOfLast ∷ []
+    ∷ daughterOwns ∷ owned ∷ awaited ∷ sharedByOne ∷ sharesAndOwns ∷ sharedByTwo ∷ behindFour ∷ bothAsked
+    ∷ daughterHoldsBack ∷ postedOnce ∷ waitedOn ∷ oneArea ∷ midPage ∷ ringOfTwo ∷ behindAnother ∷ sharedAhead
+    ∷ ringOfLast ∷ []

@@ -109,7 +109,7 @@ deqKeepingOff q c ret l room =
 
 -- THE SERVICES, by such a verdict
 
-abbrev judged : Verdict → Step → TaskNumber → List ℕ → Outcome Step → List ℕ → Served Step
+abbrev pub judged : Verdict → Step → TaskNumber → List ℕ → Outcome Step → List ℕ → Served Step
 judged v s c area o written = record {
   outcome = through (gateOf s c) s (settled v s c o);
   codes = codesThrough (gateOf s c) v area written;

@@ -1,16 +1,17 @@
 -- Loops that look at the first n of an array until one decides: the answer is that of what is left, from place i on.
 -- The records' types tell the test, the array and the places, so that a proof cites the invariant and no more.
 use mathlib.Core.Path.{_≡_, refl, sym, ap, _∙_}
-use mathlib.Core.Bool.{Bool, true, false, not}
-use mathlib.Core.List.{List, map}
+use mathlib.Core.Bool.{Bool, true, false, not, cond, _&&_, _||_}
+use mathlib.Core.List.{List, _∷_, map}
 use Prim.Native.Nat.{ℕ, _+_, _≤_, _<_}
 use lib.ListN.{length, getD, take}
 use lib.Seq.{slice}
 use borrow.Author.Tests.{not-true, not-false}
-use Rattle.lists.specs.Lists.{every, some}
+use Rattle.lists.specs.Lists.{every, some, unskipped}
 use Rattle.lists.specs.Every.{every-fails, every-goes, every-end, every-of, some-of, some-here, some-later}
 use Rattle.lists.specs.Every.{some-end}
 use Rattle.lists.specs.Keeping.{take-map}
+use Rattle.lists.specs.Skipping.{leftFrom, left-next, left-over}
 
 -- all pass
 pub record All {A : Type 0} (f : A → Bool) (l : List A) (i n : ℕ) : Type 0 where
@@ -35,6 +36,36 @@ module _ {A : Type 0} {f : A → Bool} {l : List A} {i n : ℕ} (v : All f l i n
 pub all-shown : {A B : Type 0} (view : A → B) (f : B → Bool) (n : ℕ) (l : List A)
     → every (λ (x : A). f (view x)) (take n l) ≡ every f (take n (map view l))
 all-shown view f n l = sym (ap (every f) (take-map view n l) ∙ every-of view f (take n l))
+
+-- all pass but those that are skipped
+pub record AllBut {A : Type 0} (f : A → Bool) (skip : List Bool) (l : List A) (i n : ℕ) : Type 0 where
+  pub left : every f (unskipped skip (take n l)) ≡ every f (leftFrom skip l i n)
+
+pub but-start : {A : Type 0} {f : A → Bool} {skip : List Bool} {l : List A} {n : ℕ} → AllBut f skip l 0 n
+but-start = record { left = refl }
+
+module _ {A : Type 0} {f : A → Bool} {skip : List Bool} {l : List A} {i n : ℕ} (v : AllBut f skip l i n) where
+  pub but-over : i ≡ n → true ≡ every f (unskipped skip (take n l))
+  but-over e = sym (v .left ∙ ap (every f) (left-over skip l i n e))
+
+  -- the element at place i, of which b tells that it is skipped or passes
+  module _ (h : i < n) (k : n ≤ length l) (j : i < length skip) (d : A) (s : Bool) {b : Bool}
+      (t : b ≡ (getD skip i s || f (getD l i d))) where
+    looked : every f (leftFrom skip l i n) ≡ (b && every f (leftFrom skip l (i + 1) n))
+    looked =
+        ap (every f) (left-next skip l i n d s h k j)
+        ∙ one (getD skip i s) (getD l i d) (leftFrom skip l (i + 1) n)
+        ∙ ap (λ (a : Bool). a && every f (leftFrom skip l (i + 1) n)) (sym t)
+      where
+        one : (a : Bool) (x : A) (r : List A) → every f (cond a r (x ∷ r)) ≡ ((a || f x) && every f r)
+        one true x r = refl
+        one false x r = refl
+
+    pub but-stops : not b ≡ true → false ≡ every f (unskipped skip (take n l))
+    but-stops e = sym (v .left ∙ looked ∙ rw (not-true b e))
+
+    pub but-goes-on : not b ≡ false → AllBut f skip l (i + 1) n
+    but-goes-on e = record { left = v .left ∙ looked ∙ rw (not-false b e) }
 
 -- some passes
 pub record Any {A : Type 0} (f : A → Bool) (l : List A) (i n : ℕ) : Type 0 where

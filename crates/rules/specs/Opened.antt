@@ -17,7 +17,8 @@ use Rattle.rules.specs.Detach.{detachGood, detachVerdict, detachDone}
 use Rattle.rules.specs.End.{endGood, endVerdict, endDone}
 use Rattle.rules.specs.Abend.{abendVerdict, abendDone}
 use Rattle.rules.specs.Codes.{coded, writtenOn, tooShort}
-use Rattle.rules.specs.Enq.{enqCode, tooFewFree, enqGood, enqVerdict, madeExclusive, enqDone, enqWritten}
+use Rattle.rules.specs.Enq.{enqCode, toQueue, tooFewFree, enqGood, enqVerdict, madeExclusive}
+use Rattle.rules.specs.Enq.{enqDone, enqWritten}
 use Rattle.rules.specs.Deq.{deqCode, deqVerdict, deqDone, deqWritten}
 use Rattle.rules.specs.Wait.{waitVerdict, waitSet, waitDone}
 use Rattle.rules.specs.Post.{postGood, postVerdict, postDone}
@@ -46,9 +47,9 @@ unfolding pick between dpmodGood legal isSystem lawful namesGood asksSystem gran
     bitsLeft woken signalled
     endAt areaStays waiterStays leftBy detached ended failing admitted gateOf openGate through settled begunWith
     freshGood freshOf heldTo newDispatching attachGood attachVerdict newTask attachDone detachGood detachVerdict
-    detachDone endGood endVerdict endDone abendVerdict abendDone coded writtenOn tooShort enqCode tooFewFree enqGood
-    enqVerdict madeExclusive enqDone enqWritten deqCode deqVerdict deqDone deqWritten waitVerdict waitSet waitDone
-    postGood postVerdict postDone clearGood clearVerdict clearDone rounded ownerIn areaAt oneHolder bytesApart
+    detachDone endGood endVerdict endDone abendVerdict abendDone coded writtenOn tooShort enqCode toQueue tooFewFree
+    enqGood enqVerdict madeExclusive enqDone enqWritten deqCode deqVerdict deqDone deqWritten waitVerdict waitSet
+    waitDone postGood postVerdict postDone clearGood clearVerdict clearDone rounded ownerIn areaAt oneHolder bytesApart
     pagesApart apart permitted lowestFrom insertedIn sameArea getmainGood getmainVerdict getmainDone freemainGood
     freemainVerdict freemainDone dispatched dispatchBody tasksFit jobStepGood motherGood mothersGood prioritiesGood
     taskEcbsGood endedTasksGood zeroTask freePlacesGood queueFits entriesLive entriesOnce entryNamesGood waitGood

@@ -16,7 +16,7 @@ use Rattle.rules.specs.HandCases.{x}
 use Rattle.rules.specs.Steps.{done}
 use Rattle.rules.specs.Examples.{y, z, fullQueue}
 
-abbrev w : Resource
+abbrev pub w : Resource
 w = named 87 (3 ∷ [])
 
 -- a line of the first list: the task, the place of its entry, the entry's name, the partner
@@ -24,10 +24,10 @@ abbrev stuckBy : ℕ → ℕ → Resource → ℕ → StuckTask
 stuckBy task place name partner = record { task = task; place = place; name = name; partner = partner }
 
 -- lines of the second: the place, the task, what it asked for
-abbrev owner : ℕ → ℕ → Ask → Standing
+abbrev pub owner : ℕ → ℕ → Ask → Standing
 owner place task a = record { place = place; entry = entryFor task a; owner = true }
 
-abbrev waiter : ℕ → ℕ → Ask → Standing
+abbrev pub waiter : ℕ → ℕ → Ask → Standing
 waiter place task a = record { place = place; entry = entryFor task a; owner = false }
 
 -- tasks 2 to n + 1, daughters of task 1

@@ -55,8 +55,7 @@ use Rattle.subtasks.specs.Attaching.{attachedBy}
 use Rattle.subtasks.specs.declared.attach.Attached.{Attached}
 use Rattle.rooms.specs.Found.{placeFor, place-found, replyAt, putAt, gotBy, freedBy}
 use Rattle.rooms.specs.declared.Stored.{Stored}
-use Rattle.claims.specs.Claiming.{replyTo, enqChanged, enqBy, deqBy}
-use Rattle.claims.specs.declared.Claims.{Claims}
+use Rattle.claims.specs.Claiming.{requeuedTo, replyTo, sameTables, enqChanged, enqBy, deqBy}
 use Rattle.claims.specs.declared.Claimed.{Claimed}
 use Rattle.endings.specs.Wholes.{stepIn, endedBy}
 use Rattle.endings.specs.declared.Whole.{Whole}
@@ -216,32 +215,36 @@ module _ (t : Tables) (c : TaskNumber) (p : Packed t) (k : Claimed) (n s : Outco
       → withClaims t (familyOf (waitsBy l (t .family .places))) (storedEntries l) ≡ tablesOf (requeued (stepOf t) l)
   requeued-leaves l = put-claims t (waitsBy l (t .family .places)) l p
 
+  -- only if every code is 0
+  if-zero : (z : Bool) (l : List Entry)
+      → let u = pick z (requeuedTo l (t .family .places)) (sameTables (t .queue) (t .family)) in
+      withClaims t (u .family) (u .queue) ≡ tablesOf (pick z (requeued (stepOf t) l) (stepOf t))
+  unfolding pick
+  if-zero true l = requeued-leaves l
+  if-zero false l = sym (packed-tables t p)
+
   change-leaves : (ret : Ret) (l : Names)
       → withClaims t (enqChanged ret (t .queue) (t .family) (c .0) l .family)
       (enqChanged ret (t .queue) (t .family) (c .0) l .queue) ≡ tablesOf (enqChange ret (stepOf t) (c .0) l)
   change-leaves None l = requeued-leaves _
   change-leaves Test l = sym (packed-tables t p)
-  change-leaves Use l = requeued-leaves _
+  change-leaves Use l = if-zero _ _
   change-leaves Have l = requeued-leaves _
-  change-leaves Chng l = requeued-leaves _
+  change-leaves Chng l = if-zero _ _
 
   -- with codes that are all 0, or not
-  enq-leaves : (ret : Ret) (l : Names) (z : Bool) (u : Claims)
-      → u ≡ pick z (enqChanged ret (t .queue) (t .family) (c .0) l) (record { queue = t .queue; family = t .family })
-      → replied (replyTo z) (withClaims t (u .family) (u .queue)) ≡ keptBy tablesOf
-      (pick z (done (enqChange ret (stepOf t) (c .0) l)) (four (stepOf t)))
+  coded-leaves : (z : Bool) (u : Step) (x : Tables) → x ≡ tablesOf u
+      → replied (replyTo z) x ≡ keptBy tablesOf (pick z (done u) (four u))
   unfolding pick
-  enq-leaves ret l true u e =
-      ap (λ (x : Claims). done (withClaims t (x .family) (x .queue))) e ∙ ap done (change-leaves ret l)
-  enq-leaves ret l false u e =
-      ap (λ (x : Claims). four (withClaims t (x .family) (x .queue))) e ∙ ap four (sym (packed-tables t p))
+  coded-leaves true u x e = ap done e
+  coded-leaves false u x e = ap four e
 
   pub enq-settles : (ret : Ret) (l : Names) (room : ℕ)
       → k ≡ enqBy (enqVerdict (entriesIn (t .queue)) c ret l room) ret (t .queue) (t .family) (c .0) l
       → s
       ≡ keptBy tablesOf (settled (enqVerdict (entriesIn (t .queue)) c ret l room) (stepOf t) c
       (enqDone (stepOf t) c ret l))
-  unfolding enqDone
+  unfolding enqDone coded
   enq-settles ret l room e =
       settles t c _ n s (enqVerdict (entriesIn (t .queue)) c ret l room) (k .verdict) p
       (ap (λ (z : Claimed). z .verdict) e)
@@ -249,14 +252,8 @@ module _ (t : Tables) (c : TaskNumber) (p : Packed t) (k : Claimed) (n s : Outco
       b
       ∙ ap (λ (z : Claimed). replied (z .reply) (withClaims t (z .tables .family) (z .tables .queue)))
       (e ∙ ap (λ (u : Verdict). enqBy u ret (t .queue) (t .family) (c .0) l) h)
-      ∙ enq-leaves ret l (allZero (enqCodes ret (entriesIn (t .queue)) (c .0) l)) _ refl)
+      ∙ coded-leaves (allZero (enqCodes ret (entriesIn (t .queue)) (c .0) l)) _ _ (change-leaves ret l))
       d
-
-  deq-leaves : (z : Bool) (u : Step) (x : Tables) → x ≡ tablesOf u
-      → replied (replyTo z) x ≡ keptBy tablesOf (pick z (done u) (four u))
-  unfolding pick
-  deq-leaves true u x e = ap done e
-  deq-leaves false u x e = ap four e
 
   pub deq-settles : (ret : DeqRet) (l : Names) (room : ℕ)
       → k ≡ deqBy (deqVerdict (entriesIn (t .queue)) c ret l room) ret (t .queue) (t .family) (c .0) l
@@ -271,7 +268,7 @@ module _ (t : Tables) (c : TaskNumber) (p : Packed t) (k : Claimed) (n s : Outco
       b
       ∙ ap (λ (z : Claimed). replied (z .reply) (withClaims t (z .tables .family) (z .tables .queue)))
       (e ∙ ap (λ (u : Verdict). deqBy u ret (t .queue) (t .family) (c .0) l) h)
-      ∙ deq-leaves (allZero (deqCodes ret (entriesIn (t .queue)) (c .0) l))
+      ∙ coded-leaves (allZero (deqCodes ret (entriesIn (t .queue)) (c .0) l))
       (requeued (stepOf t) (released (c .0) (namesOf l) (entriesIn (t .queue)))) _ (requeued-leaves _))
       d
 

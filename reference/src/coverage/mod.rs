@@ -1,12 +1,16 @@
 //! Counts what a script reaches: answers per service and report, rules of sound tables
-//! broken, what the lists of the reports show, what the system's names come to.
+//! broken, what the lists of the reports show, what the system's names come to, what HAVE
+//! skips.
 
+mod made;
 mod sights;
+pub mod skips;
 mod system;
 
 use std::collections::BTreeMap;
 use std::io::{BufRead, Result, Write};
 
+use self::made::{Made, Test};
 use self::sights::Sight;
 use crate::reports::Report;
 use crate::request::{Answer, Request, Ret};
@@ -40,10 +44,17 @@ const EXPECTED: [(&str, &[u32]); 21] = [
     ("queues", &[0, 100, 104, 108]),
 ];
 
+/// All that is looked for in requests of ENQ and DEQ, beside their answers.
+fn of_names() -> Vec<(Sight, Test)> {
+    let mut all = system::looked_for();
+    all.extend(skips::looked_for());
+    all
+}
+
 /// All that is looked for beside answers and rules.
 fn all_sights() -> Vec<Sight> {
     let mut all = sights::all();
-    all.extend(system::all());
+    all.extend(of_names().iter().map(|(sight, _)| *sight));
     all
 }
 
@@ -172,8 +183,8 @@ impl Counts {
     fn named(&mut self, before: &Step, runner: &Runner, request: Request, answer: Answer) {
         if let Request::Enq { .. } | Request::Deq { .. } = request {
             let (names, codes) = (runner.lists().names, runner.codes());
-            let made = system::Made { before, request, names, codes, answer };
-            self.see(system::seen(word(&request), &made));
+            let made = Made { before, after: &runner.step, request, names, codes, answer };
+            self.see(made::seen(of_names(), word(&request), &made));
         }
     }
 

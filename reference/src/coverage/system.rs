@@ -1,22 +1,10 @@
 //! What ENQ and DEQ come to with names of the system, and with names that are nearly such.
 
+use super::made::{Made, Test};
 use super::sights::Sight;
-use crate::control::entry_of;
 use crate::names::{stands_twice, Asked, Name, SYSTEM};
 use crate::numbers::{ENTRIES, LIST, MINOR};
-use crate::request::{Answer, Request, Ret};
-use crate::tables::Step;
-
-/// A request that was made: the tables before it, its names, the codes area after it.
-pub struct Made<'a> {
-    pub before: &'a Step,
-    pub request: Request,
-    pub names: &'a [Asked],
-    pub codes: &'a [u8],
-    pub answer: Answer,
-}
-
-type Test = fn(&Made) -> bool;
+use crate::request::{Request, Ret};
 
 /// Of ENQ, in each RET kind.
 const EACH_RET: [(&str, Test); 5] = [
@@ -104,7 +92,7 @@ const DEQ_HAVE: [(&str, Test); 5] = [
 ];
 
 /// All that is looked for, with the word of the request that shows it; `enq` is any RET kind.
-fn looked_for() -> Vec<(Sight, Test)> {
+pub fn looked_for() -> Vec<(Sight, Test)> {
     let mut all = Vec::new();
     let mut add = |word: &'static str, tests: &[(&'static str, Test)]| {
         all.extend(tests.iter().map(|(what, test)| ((word, *what), *test)));
@@ -121,18 +109,6 @@ fn looked_for() -> Vec<(Sight, Test)> {
     add("deq-none", &DEQ_NONE);
     add("deq-have", &DEQ_HAVE);
     all
-}
-
-pub fn all() -> Vec<Sight> {
-    looked_for().iter().map(|(sight, _)| *sight).collect()
-}
-
-/// What a request with this word shows.
-pub fn seen(word: &str, made: &Made) -> Vec<Sight> {
-    let is_enq = matches!(made.request, Request::Enq { .. });
-    let fits = |sight: &Sight| sight.0 == word || (is_enq && sight.0 == "enq");
-    let shown = looked_for().into_iter().filter(|(sight, test)| fits(sight) && test(made));
-    shown.map(|(sight, _)| sight).collect()
 }
 
 /// Does the major part differ from the system's in this one of the three bytes?
@@ -194,10 +170,6 @@ impl<'a> Made<'a> {
         self.answer.number < 100 && self.names.iter().any(|asked| test(&asked.name))
     }
 
-    fn area_is_short(&self) -> bool {
-        self.request.codes_are_due() && self.codes.len() < self.names.len()
-    }
-
     /// It might queue, and there is no room for all names.
     fn entries_are_too_few(&self) -> bool {
         let queues = match self.request {
@@ -205,15 +177,6 @@ impl<'a> Made<'a> {
             _ => false,
         };
         queues && self.names.len() > ENTRIES - self.before.entry_count
-    }
-
-    fn has(&self, asked: &Asked) -> bool {
-        let caller = self.request.caller().unwrap_or(0);
-        entry_of(self.before.used_entries(), caller, asked).is_some()
-    }
-
-    fn caller_has_some(&self) -> bool {
-        self.names.iter().any(|asked| self.has(asked))
     }
 
     /// DEQ HAVE: code 8 for a system name.

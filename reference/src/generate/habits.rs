@@ -14,6 +14,8 @@ pub struct Habits {
     /// How often an ENQ or DEQ is aimed at a name of the system, in percent: rarely, so that
     /// queues fill.
     pub system: u32,
+    /// How often an ENQ is a HAVE with names that its task has, in percent.
+    pub skips: u32,
     /// How many names there are to ask for.
     pub names: u32,
     /// Areas are small, so that the table fills before the region.
@@ -23,12 +25,12 @@ pub struct Habits {
 const EVEN: [u32; SORTS] = [14, 5, 6, 2, 22, 14, 8, 14, 6, 12, 8, 5, 2, 2];
 
 pub fn habits_of(kind: &str) -> Habits {
-    let even = Habits { parts: EVEN, spoilt: 6, system: 4, names: 6, small: false };
+    let even = Habits { parts: EVEN, spoilt: 6, system: 4, skips: 6, names: 6, small: false };
     match kind {
         "tasks" => Habits { parts: [60, 12, 12, 5, 6, 3, 8, 14, 6, 12, 8, 12, 0, 0], ..even },
         "queue" => {
             let parts = [14, 5, 6, 2, 70, 55, 1, 2, 6, 1, 1, 5, 3, 5];
-            Habits { parts, system: 6, names: 5, ..even }
+            Habits { parts, system: 6, skips: 8, names: 5, ..even }
         }
         "events" => Habits { parts: [14, 5, 6, 2, 3, 3, 40, 50, 20, 1, 1, 5, 0, 0], ..even },
         "storage" => Habits { parts: [14, 5, 6, 2, 2, 2, 2, 3, 6, 60, 45, 5, 0, 0], ..even },

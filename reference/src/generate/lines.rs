@@ -119,6 +119,9 @@ impl<'a> Generator<'a> {
         if self.random.percent(self.habits.system) {
             return self.system_enq_line();
         }
+        if self.random.percent(self.habits.skips) {
+            return self.skip_line();
+        }
         let ret = self.random.pick(&["none", "none", "test", "use", "use", "have", "have", "chng"]);
         let caller =
             if ret == "chng" { self.caller_where(|g, n| g.holds_any(n)) } else { self.caller() };

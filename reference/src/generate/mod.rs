@@ -10,6 +10,7 @@ mod habits;
 mod lines;
 mod plays;
 mod reports;
+mod skips;
 mod storm;
 mod system;
 

@@ -24,7 +24,7 @@ impl<'a> Generator<'a> {
         }
         let closed = self.random.percent(80);
         for i in 0..(if closed { size } else { size - 1 }) {
-            self.take_name(ready[i], &names[(i + 1) % size])?;
+            self.take_beside(ready[i], &names[i], &names[(i + 1) % size])?;
         }
         self.say("dump")?;
         self.report()?;
@@ -34,7 +34,7 @@ impl<'a> Generator<'a> {
         self.break_ring(ready[0])
     }
 
-    fn take_name(&mut self, task: u32, name: &Name) -> Result<()> {
+    pub fn take_name(&mut self, task: u32, name: &Name) -> Result<()> {
         let ret = self.random.pick(&["none 0", "have 1", "have 2"]);
         let mode = if self.random.percent(85) { "E" } else { "S" };
         self.say(&format!("enq {} {} {}:{}", task, ret, mode, text_of(name))).map(|_| ())
@@ -63,6 +63,11 @@ impl<'a> Generator<'a> {
         if self.random.percent(15) {
             let sort = self.random.pick(&[0, 0, 0, 1, 2, 7, 11, 12, 13]);
             let line = self.line_of(sort);
+            return self.say(&line).map(|_| ());
+        }
+        if !held.is_empty() && self.random.one_in(40) {
+            // skips all, so that the task has queued nothing more and keeps to its habit
+            let line = self.line_with_skips(caller, LIST, 0);
             return self.say(&line).map(|_| ());
         }
         if !held.is_empty() {
@@ -133,7 +138,8 @@ impl<'a> Generator<'a> {
                 format!("enq {} {}", caller, self.random.pick(&["none 0", "use 16", "have 16"]));
             let from = number;
             while number < from + wanted.min(free) {
-                line += &format!(" S:ff{:014x}.{:02x}", number, caller);
+                let mode = self.random.pick(&["S", "S", "E"]);
+                line += &format!(" {}:ff{:014x}.{:02x}", mode, number, caller);
                 number += 1;
             }
             let before = self.runner.step.entry_count;
@@ -142,10 +148,11 @@ impl<'a> Generator<'a> {
                 break;
             }
         }
-        for _ in 0..6 {
+        for _ in 0..3 {
             let line = self.line_of(4);
             self.say(&line)?;
         }
+        self.skips_in_a_crowd()?;
         let line = self.system_enq_line();
         self.say(&line)?;
         self.report()?;

@@ -113,7 +113,7 @@ impl<'a> Generator<'a> {
     }
 
     /// With their modes; CHNG rarely asks for shared.
-    fn in_modes(&mut self, names: &[Name], ret: &str) -> Vec<String> {
+    pub fn in_modes(&mut self, names: &[Name], ret: &str) -> Vec<String> {
         let shared = if ret == "chng" { 20 } else { 2 };
         let mut words = Vec::new();
         for name in names {

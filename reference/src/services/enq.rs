@@ -1,4 +1,4 @@
-//! ENQ
+//! ENQ, with document 02, section 3: "HAVE goes name by name."
 
 use super::{all_zero, answer_with_codes};
 use crate::control::{entry_of, has_control, is_available, settle};
@@ -8,6 +8,8 @@ use crate::numbers::{ENTRIES, LIST};
 use crate::request::{Answer, Ret};
 use crate::tables::{Entry, Step};
 
+/// 105 is "tested after 201 and after the codes"; it leaves the codes area as it is, so the
+/// codes are written last.
 pub fn enq(step: &mut Step, caller: u32, ret: Ret, names: &[Asked], codes: &mut [u8]) -> Answer {
     if ret == Ret::None {
         return unconditional(step, caller, names);
@@ -17,16 +19,11 @@ pub fn enq(step: &mut Step, caller: u32, ret: Ret, names: &[Asked], codes: &mut 
         *code = code_of(step.used_entries(), caller, ret, asked);
     }
     let found = &room[..names.len()];
-    if all_zero(found) {
-        match ret {
-            Ret::Chng => make_exclusive(step, caller, names),
-            Ret::Use | Ret::Have => {
-                if !queue_all(step, caller, names) {
-                    return Answer::refused(105);
-                }
-            }
-            Ret::Test | Ret::None => {}
-        }
+    if ret == Ret::Chng && all_zero(found) {
+        make_exclusive(step, caller, names);
+    }
+    if !queue(step, caller, &to_be_queued(ret, names, found)) {
+        return Answer::refused(105);
     }
     answer_with_codes(found, codes)
 }
@@ -36,10 +33,24 @@ fn unconditional(step: &mut Step, caller: u32, names: &[Asked]) -> Answer {
     if names.iter().any(|asked| entry_of(step.used_entries(), caller, asked).is_some()) {
         return program_error(step, caller, 201);
     }
-    if !queue_all(step, caller, names) {
+    if !queue(step, caller, names) {
         return Answer::refused(105);
     }
     Answer::done(0)
+}
+
+/// What RET kinds with codes queue.  USE: "queue all, only if every code is 0".  HAVE, by
+/// document 02, section 3: "names with code 8 skipped and the rest queued".  TEST and CHNG
+/// queue nothing.
+fn to_be_queued(ret: Ret, names: &[Asked], found: &[u8]) -> Vec<Asked> {
+    match ret {
+        Ret::Use if all_zero(found) => names.to_vec(),
+        Ret::Have => {
+            let rest = names.iter().zip(found).filter(|(_, code)| **code != 8);
+            rest.map(|(asked, _)| *asked).collect()
+        }
+        Ret::Use | Ret::Test | Ret::Chng | Ret::None => Vec::new(),
+    }
 }
 
 /// The table of RET kinds; "8 goes before 4".
@@ -85,9 +96,14 @@ fn make_exclusive(step: &mut Step, caller: u32, names: &[Asked]) {
 }
 
 /// "New entries go to the tail, in list order."  "After NONE or HAVE the caller waits
-/// until all its entries have control."  False, and nothing changed, is 105: "entries
-/// are to be queued and there are too few free".
-fn queue_all(step: &mut Step, caller: u32, names: &[Asked]) -> bool {
+/// until all its entries have control": the new ones and those that it had.  False, and
+/// nothing changed, is 105: "entries are to be queued and there are too few free", where "105
+/// counts only the names to be queued" (document 02, section 3).  With none to be queued it
+/// isn't tested, and nothing changes.
+fn queue(step: &mut Step, caller: u32, names: &[Asked]) -> bool {
+    if names.is_empty() {
+        return true;
+    }
     if names.len() > ENTRIES - step.entry_count {
         return false;
     }

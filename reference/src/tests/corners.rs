@@ -85,10 +85,12 @@ fn r8_and_r9_full_queue() {
     assert_eq!(last("enq 2 use 4 S:0000000000000000.00"), "105 0");
     assert_eq!(last("enq 2 have 4 S:0000000000000000.00"), "105 0");
     assert_eq!(last("enq 2 test 4 S:0000000000000000.00"), "0 0 codes=00eeeeee");
-    // a code not 0: nothing is to be queued
+    // USE with a code not 0: nothing is to be queued
     assert_eq!(last("enq 2 use 2 S:0000000000000000.00 S:000000000000000f.00"), "4 0 codes=0008");
     assert_eq!(last("enq 2 use 2 E:0000000000000000.00 S:000000000000000f.00"), "4 0 codes=0408");
-    assert_eq!(last("enq 2 have 2 S:0000000000000000.00 S:000000000000000f.00"), "4 0 codes=0008");
+    // HAVE: the name with code 0 is to be queued; where every code is 8, none is
+    assert_eq!(last("enq 2 have 2 S:0000000000000000.00 S:000000000000000f.00"), "105 0");
+    assert_eq!(last("enq 2 have 2 S:000000000000000f.01 S:000000000000000f.00"), "4 0 codes=0808");
     // 201 before 105
     assert_eq!(last("enq 2 none 0 S:0000000000000000.00 S:000000000000000f.00"), "201 0");
     assert_eq!(dumped(&(full_queue() + "enq 2 none 0 S:000000000000000f.00"), "entry").len(), 120);

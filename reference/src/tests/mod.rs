@@ -6,6 +6,7 @@ mod hand;
 mod literal;
 mod refusals;
 mod reports;
+mod skips;
 mod system;
 mod text;
 mod unsound;

@@ -1,45 +1,68 @@
--- What going on says lets the codes be written; whether they were all 0 decides between the two answers.
-use mathlib.Core.Path.{sym, _∙_}
-use borrow.Author.Tests.{not-true, not-false}
+-- What going on says lets the codes be written; they say what changes and what the answer is.
+use mathlib.Core.Path.{_≡_}
+use Prim.Native.Nat.{_≤_}
+use native.Mathlib.Omega.{arith}
+use lib.ListN.{length}
 use borrow.Author.Needs.{needs}
-use Rattle.lists.specs.Pick.{pick}
+use Rattle.lists.specs.Arrays.{mapped-length}
+use Rattle.kinds.specs.Limits.{longestList}
 use Rattle.names.proofs.Listed.{good-count}
 use Rattle.laws.specs.InRange.{enq-names}
 use Rattle.laws.specs.Passed.{enq-passed}
+use Rattle.claims.proofs.Coding.{zero-told, left-told}
 use Rattle.claims.proofs.enq.goes_on.Statement.{statement}
 use Rattle.claims.proofs.enq.goes_on.Tie as tie
+
+few : (c : tie.Start) → c .args .names .count ≤ longestList
+few c = good-count _ (enq-names _ _ (enq-passed _ _ _ _ _ (c .pre .1) .good))
+
+within : (c : tie.Start) → c .args .names .count ≤ length (c .args .names .names)
+within c =
+    let h : length (c .args .names .names) ≡ longestList = search (needs, mapped-length) in omega (arith, few c)
 
 write-codes-requires : tie.Need-write-codes-requires
 write-codes-requires c κs =
     let p = c .before .before .pre in
-    let g = enq-passed _ _ _ _ _ (p .1) in
-    ((p .0 .0 .room, good-count _ (enq-names _ _ (g .good))), g .coded)
+    ((p .0 .0 .room, few (c .before .before)), enq-passed _ _ _ _ _ (p .1) .coded)
+
+all-zero-requires : tie.Need-all-zero-requires
+all-zero-requires c κs =
+    few (c .before .before .before .before .before)
+
+skipped-requires : tie.Need-skipped-requires
+skipped-requires c κs = search needs
+
+change-requires : tie.Need-change-requires
+change-requires c κs =
+    let w = c .before .before .before .before in
+    let s = w .before .before .before in
+    let g = enq-passed _ _ _ _ _ (s .pre .1) in
+    let k = w .write-codes .ensures .0 in (
+      s .pre .0,
+      record {
+        good = enq-names _ _ (g .good);
+        room = g .room;
+        all = zero-told (s .args .ret) _ _ (s .args .names) (within s) _ _ k (c .before .all-zero .ensures);
+        left = left-told (s .args .ret) _ _ (s .args .names) _ _ k (c .skipped .ensures);
+      },
+    )
+
+reply-to-requires : tie.Need-reply-to-requires
+reply-to-requires c κs = search needs
 
 same-length : tie.Need-same-length
 same-length c = search needs
 
 returns : tie.Need-returns
-unfolding pick
 returns c =
-    let e = c .before .before .before .write-codes .ensures in
-    (rw (sym (e .0) ∙ not-true _ (c .if1 .taken)), e .1)
-
-change-requires : tie.Need-change-requires
-change-requires c κs =
-    let k = c .before .before .before in
-    let p = k .before .before .before .pre in
-    let g = enq-passed _ _ _ _ _ (p .1) in
-    let z = sym (k .write-codes .ensures .0) ∙ not-false _ (c .if1 .left) in
-    (p .0, record { good = enq-names _ _ (g .good); room = g .room; zero = z })
-
-same-length-2 : tie.Need-same-length-2
-same-length-2 c = search needs
-
-returns-2 : tie.Need-returns-2
-unfolding pick
-returns-2 c =
-    let e = c .before .before .before .before .write-codes .ensures in
-    (rw (sym (e .0) ∙ not-false _ (c .before .if1 .left), c .change .ensures), e .1)
+    let z = c .before .before .before in
+    let w = z .before .before .before in
+    let s = w .before .before .before in
+    let k = w .write-codes .ensures in
+    let e = zero-told (s .args .ret) _ _ (s .args .names) (within s) _ _ (k .0) (z .all-zero .ensures) in
+    (rw (c .reply-to .ensures, c .before .change .ensures, e), k .1)
 
 pub goes-on-spec : {M : Type 1} → statement M
-goes-on-spec = tie.close (tie.spec write-codes-requires same-length returns change-requires same-length-2 returns-2)
+goes-on-spec =
+    tie.close (tie.spec write-codes-requires all-zero-requires skipped-requires change-requires reply-to-requires
+    same-length returns)

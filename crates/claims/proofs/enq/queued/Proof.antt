@@ -1,22 +1,17 @@
--- The resource waits that the tail makes are the caller's alone, and it waits unless every name was available.
-use mathlib.Core.Path.{_≡_, sym, _∙_}
-use lib.ListN.{length}
+-- The resource waits that the tail makes are the caller's alone, and it waits unless each name in it was available.
+use mathlib.Core.Path.{sym, _∙_}
 use native.Mathlib.Omega.{arith}
 use borrow.Author.Needs.{needs}
-use Rattle.lists.specs.Arrays.{mapped-length}
 use Rattle.lists.specs.Pick.{pick}
-use Rattle.kinds.specs.Limits.{longestList}
 use Rattle.names.proofs.Listed.{good-count, good-legal}
-use Rattle.claims.proofs.Changes.{counted-room, caller-place, tail-tasks}
+use Rattle.claims.proofs.Changes.{counted, caller-place, tail-tasks}
 use Rattle.claims.proofs.enq.queued.Statement.{statement}
 use Rattle.claims.proofs.enq.queued.Tie as tie
 
 with-tail-requires : tie.Need-with-tail-requires
 with-tail-requires c κs =
-    let h : length (c .args .names .names) ≡ longestList = search (needs, mapped-length) in
     let p = c .pre in
-    let n = good-count _ (p .1 .0) in
-    (p .0 .0, n, counted-room _ (c .args .names) (p .0 .0) (omega arith) (p .1 .1), good-legal _ (p .1 .0))
+    (p .0 .0, good-count _ (p .1 .0), omega (arith, counted _ (p .0 .0)), good-legal _ (p .1 .0))
 
 all-available-requires : tie.Need-all-available-requires
 all-available-requires c κs = (c .before .pre .0 .0 .room, good-count _ (c .before .pre .1 .0))
@@ -26,7 +21,7 @@ unfolding pick
 returns c =
     let b = c .before .before in
     let p = b .before .pre in
-    let t = tail-tasks (p .0 .1) _ (p .1 .0) _ (sym (c .before .all-available .ensures) ∙ c .if1 .taken) in
+    let t = tail-tasks (p .0 .1) _ _ (p .1 .0) _ (sym (c .before .all-available .ensures) ∙ c .if1 .taken) in
     rw (b .with-tail .ensures, t)
 
 at-requires : tie.Need-at-requires
@@ -44,7 +39,7 @@ returns-2 c =
     let d = c .before .before .before in
     let b = d .before .before in
     let p = b .before .pre in
-    let t = tail-tasks (p .0 .1) _ (p .1 .0) _ (sym (d .before .all-available .ensures) ∙ d .if1 .left) in
+    let t = tail-tasks (p .0 .1) _ _ (p .1 .0) _ (sym (d .before .all-available .ensures) ∙ d .if1 .left) in
     let w = c .before in
     rw (b .with-tail .ensures, c .with-place .ensures, w .with-condition .ensures, w .before .at .ensures, t)
 

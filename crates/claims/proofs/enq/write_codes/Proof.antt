@@ -1,4 +1,4 @@
--- The bytes at the front are the rule's codes, so what is said and written of them is what the rule says.
+-- The bytes at the front are the rule's codes, so what is written is what the rule says.
 use mathlib.Core.Path.{_≡_, sym, _∙_}
 use Prim.Native.Nat.{_≤_}
 use native.Mathlib.Omega.{arith}
@@ -28,23 +28,21 @@ write-due-requires c κs =
     let d = sym (c .before .enq-codes-due .ensures) in
     (s .pre .0 .1, λ t. due-room _ _ (s .args .names) (within s) (s .pre .1) (d ∙ t))
 
-all-zero-requires : tie.Need-all-zero-requires
-all-zero-requires c κs = search needs
-
 same-length : tie.Need-same-length
 same-length c = search needs
 
 returns : tie.Need-returns
 unfolding enqWritten
 returns c =
-    let d = c .before .before .before in
+    let d = c .before .before in
     let k = d .before .before .before in
     let s = k .before .before in
-    let f = enq-front (entriesIn (s .args .q)) (s .args .caller .0) (s .args .names) (within s) (s .args .ret) in
-    rw (← f, ← k .enq-codes .ensures, ← d .before .before .enq-codes-due .ensures)
-    (c .all-zero .ensures, d .write-due .ensures)
+    let f = enq-front (entriesIn (s .args .q)) (s .args .caller .0) (s .args .names) (within s) (s .args .ret) in (
+      k .enq-codes .ensures,
+      rw (← f, ← k .enq-codes .ensures, ← d .before .before .enq-codes-due .ensures) (d .write-due .ensures),
+    )
 
 pub write-codes-spec : {M : Type 1} → statement M
 write-codes-spec =
     tie.close
-    (tie.spec enq-codes-requires enq-codes-due-requires write-due-requires all-zero-requires same-length returns)
+    (tie.spec enq-codes-requires enq-codes-due-requires write-due-requires same-length returns)

@@ -1,0 +1,57 @@
+-- The zeros among the first i codes are counted (invariant); codes left to look at fall (measure).
+use Prim.Native.Nat.{ℕ, _≤_, _-_}
+use mathlib.Core.Path.{_≡_, sym, ap, _∙_}
+use mathlib.Core.Logic.{⊎-elim}
+use native.Mathlib.Omega.{arith}
+use borrow.Author.Needs.{needs}
+use borrow.Author.Tests.{eq-eqb, ne-eqb}
+use lib.Dec.{eqb}
+use lib.ListN.{length, take}
+use Rattle.lists.specs.Lists.{howMany}
+use Rattle.lists.specs.Counting.{Counted, counted-start, counted-one, counted-not}
+use Rattle.kinds.specs.Limits.{longestList}
+use Rattle.asks.proofs.verdict.zeros.Statement.{statement}
+use Rattle.asks.proofs.verdict.zeros.Tie as tie
+
+abbrev Inv-loop : tie.InvT-loop
+Inv-loop n k m count₀ i₀ count i =
+    (i ≤ n) × (n ≤ longestList) × (length (k .bytes) ≡ longestList) × Counted (eqb 0) (k .bytes) i count
+
+abbrev μ-loop : tie.MeasureT-loop
+μ-loop n k m count₀ i₀ count i = n - i
+
+loop-holds : tie.Need-loop-holds Inv-loop μ-loop
+loop-holds c = (omega arith, omega arith, search needs, counted-start)
+
+element-copy-out-b : tie.Need-element-copy-out-b Inv-loop μ-loop
+element-copy-out-b c = omega arith
+
+add-count : tie.Need-add-count Inv-loop μ-loop
+add-count c = omega arith
+
+add-i : tie.Need-add-i Inv-loop μ-loop
+add-i c = omega arith
+
+loop-less : tie.Need-loop-less Inv-loop μ-loop
+loop-less c = omega arith
+
+loop-again : tie.Need-loop-again Inv-loop μ-loop
+loop-again c =
+    let v = c .before .before .before .loop .inv .3 in (
+      omega arith,
+      omega arith,
+      omega arith,
+      ⊎-elim (λ w. counted-one v (omega arith) _ (eq-eqb 0 _ (sym (w .0 .taken))) (w .1))
+          (λ w. counted-not v (omega arith) _ (ne-eqb 0 _ (λ e. w .0 .left (sym e))) (w .1)) (c .if1 .came),
+    )
+
+returns : tie.Need-returns Inv-loop μ-loop
+returns c =
+    let a = c .before .before .args in
+    let l = c .before .loop in
+    let e : l .i ≡ a .n = omega arith in
+    l .inv .3 .so-far ∙ ap (λ (j : ℕ). howMany (eqb 0) (take j (a .t1 .bytes))) e
+
+pub zeros-spec : {M : Type 1} → statement M
+zeros-spec =
+    tie.close (tie.spec Inv-loop μ-loop loop-holds element-copy-out-b add-count add-i loop-less loop-again returns)

@@ -8,7 +8,7 @@ use native.Mathlib.Nat.{zero-add}
 use lib.Dec.{eqb}
 use lib.ListN.{length, getD, take, set, replicate, length-map, drop-of-length-le, List·getD-map}
 use lib.Seq.{getD-take}
-use Rattle.lists.specs.Lists.{numbers, keep, unskipped}
+use Rattle.lists.specs.Lists.{numbers, unskipped}
 use Rattle.lists.specs.Pick.{pick}
 use Rattle.lists.specs.Tables.{padded, padded-eq}
 use Rattle.lists.specs.Keeping.{keep-same, take-map}
@@ -25,11 +25,13 @@ use Rattle.kinds.specs.declared.requests.DeqRet.the-variants.{None as DeqNone, 
 use Rattle.names.specs.Named.{askOf, namesIn}
 use Rattle.rules.specs.Names.{Resource, Ask, nameOf, namesOf}
 use Rattle.rules.specs.Control.{Entry, hasEntry, available, soleOwner}
+use Rattle.rules.specs.Codes.{allZero}
 use Rattle.rules.specs.Enq.{enqCode, enqCodes}
 use Rattle.rules.specs.Deq.{deqCode, deqCodes}
 use Rattle.laws.specs.Among.{eqb-swap}
+use Rattle.laws.specs.ToQueue.{zeroCoded}
 use Rattle.flags.specs.Flagging.{flagsOf}
-use Rattle.asks.specs.Coding.{codesOf, nonzero, codes-front}
+use Rattle.asks.specs.Coding.{codesOf, flagged, nonzero, codes-front}
 use Rattle.asks.specs.Coding.{queuingCode, changeCode, releaseCode, enqCodeBy, deqCodeBy}
 use Rattle.flags.specs.declared.Flags.{Flags}
 use Rattle.asks.specs.declared.codes.Codes.{Codes}
@@ -149,15 +151,17 @@ module _ (q : List Entry) (c : ℕ) (l : NameList) (h : l .count ≤ length (l .
       → take (l .count) (codesOf (enqCodes ret q c (namesIn l)) .bytes) ≡ enqCodes ret q c (namesIn l)
   enq-front ret = codes-front _ (l .count) (length-map (namesIn l .asks) (enqCode ret q c) ∙ asks-length l h)
 
+  -- whether all of them are 0
+  pub zero-told : (ret : Ret) (k : Codes) (zero : Bool) → k ≡ codesOf (enqCodes ret q c (namesIn l))
+      → zero ≡ allZero (take (l .count) (k .bytes)) → zero ≡ allZero (enqCodes ret q c (namesIn l))
+  zero-told ret k zero e z =
+      z ∙ ap (λ (x : Codes). allZero (take (l .count) (x .bytes))) e ∙ ap allZero (enq-front ret)
+
   pub deq-front : (ret : DeqRet)
       → take (l .count) (codesOf (deqCodes ret q c (namesIn l)) .bytes) ≡ deqCodes ret q c (namesIn l)
   deq-front ret =
       codes-front _ (l .count)
       (length-map (namesOf (namesIn l)) (deqCode ret q c) ∙ length-map (namesIn l .asks) nameOf ∙ asks-length l h)
-
--- a code other than 0 has its flag set
-abbrev flagged : ℕ → Bool
-flagged b = not (eqb 0 b)
 
 -- a flag for each code, the first i of them written
 abbrev pub FlaggedTo : Codes → ℕ → List Bool → Type 0
@@ -194,7 +198,7 @@ module _ (ret : Ret) (q : List Entry) (c : ℕ) (l : NameList) where
   flag a = flagged (enqCode ret q c a)
 
   pub unskipped-zero : (k : Codes) → k ≡ codesOf (enqCodes ret q c (namesIn l))
-      → unskipped (nonzero k .of) (namesIn l .asks) ≡ keep (λ (a : Ask). eqb 0 (enqCode ret q c a)) (namesIn l .asks)
+      → unskipped (nonzero k .of) (namesIn l .asks) ≡ zeroCoded q c ret (namesIn l)
   unfolding codesOf nonzero padded
   unskipped-zero k e =
       let asks = namesIn l .asks in

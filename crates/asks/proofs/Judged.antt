@@ -27,7 +27,7 @@ use Rattle.queue.specs.declared.Queue.{Queue}
 use Rattle.flags.proofs.Flagged.{asks-length}
 use Rattle.asks.specs.Coding.{codesOf}
 use Rattle.asks.specs.declared.codes.Codes.{Codes}
-use Rattle.asks.proofs.Coded.{enq-front}
+use Rattle.asks.proofs.Coded.{enq-front, zero-told}
 
 -- the codes area against the count
 pub short-is : (l : NameList) (room : ℕ) (d due : Bool) → l .count ≤ length (l .names) → d ≡ due
@@ -45,10 +45,7 @@ module _ (q : List Entry) (c : ℕ) (l : NameList) (h : l .count ≤ length (l .
   module _ (b : Bool) (k : Codes) (e : k ≡ codesOf (enqCodes Use q c (namesIn l)))
       (z : b ≡ allZero (take (l .count) (k .bytes))) where
     are-zero : b ≡ allZero (enqCodes Use q c (namesIn l))
-    are-zero =
-        z
-        ∙ ap (λ (x : Codes). allZero (take (l .count) (x .bytes))) e
-        ∙ ap allZero (enq-front q c l h Use)
+    are-zero = zero-told q c l h Use k b e z
 
     pub use-counted : b ≡ true → l .count ≡ length (toQueue Use q c (namesIn l))
     unfolding toQueue

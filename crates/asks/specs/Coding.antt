@@ -19,8 +19,11 @@ unfoldable pub codesOf : List ℕ → Codes
 codesOf l = record { bytes = padded longestList 0 l }
 
 -- a flag for each code: it is other than 0
+abbrev pub flagged : ℕ → Bool
+flagged b = not (eqb 0 b)
+
 unfoldable pub nonzero : Codes → Flags
-nonzero k = record { of = map (λ (b : ℕ). not (eqb 0 b)) (k .bytes) }
+nonzero k = record { of = map flagged (k .bytes) }
 
 -- the codes are at the front
 pub codes-front : (l : List ℕ) (n : ℕ) → length l ≡ n → take n (codesOf l .bytes) ≡ l

@@ -161,7 +161,8 @@ pub fn all_zero(k: Codes, n: u32) -> bool
     true
 }
 
-// The names with a code other than 0, which are skipped.
+// The names with a code other than 0, which ENQ skips where it queues: under HAVE that code is 8, and under NONE and
+// USE there is none then.
 pub fn skipped(k: Codes) -> Flags
     ensures { λ r. ⌜ r ≡ nonzero k ⌝ }
 {

@@ -76,7 +76,7 @@ fn zeros(k: Codes, n: u32) -> usize
 }
 
 // How many names are to be queued. Codes are found only where they decide it.
-fn to_queue(q: Queue, caller: TaskNumber, ret: Ret, l: NameList) -> usize
+fn many_to_queue(q: Queue, caller: TaskNumber, ret: Ret, l: NameList) -> usize
     requires { ⌜ (q .count ≤ mostEntries) × (l .count ≤ longestList) ⌝ }
     ensures { λ r. ⌜ r ≡ length (toQueue ret (entriesIn q) (caller .0) (namesIn l)) ⌝ }
 {
@@ -104,7 +104,7 @@ fn too_few_free(q: Queue, caller: TaskNumber, ret: Ret, l: NameList) -> bool
     if q.count + n <= Slot::PLACES {
         return false;
     }
-    let m = to_queue(q, caller, ret, l);
+    let m = many_to_queue(q, caller, ret, l);
     (0 < m) & (Slot::PLACES < q.count + m)
 }
 

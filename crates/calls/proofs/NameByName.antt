@@ -2,23 +2,26 @@
 -- leaves.
 use mathlib.Core.Path.{_≡_, ap, _∙_}
 use mathlib.Core.Bool.{true}
-use mathlib.Core.List.{List}
+use mathlib.Core.List.{List, map}
 use Prim.Native.Nat.{ℕ}
 use lib.ListN.{length}
-use Rattle.lists.specs.Lists.{every}
+use Rattle.lists.specs.Lists.{every, some}
+use Rattle.lists.specs.Pick.{pick}
+use Rattle.kinds.specs.Replies.{numberOf}
 use Rattle.kinds.specs.declared.numbers.TaskNumber.{TaskNumber}
 use Rattle.kinds.specs.declared.requests.Ret.the-variants.{Have}
 use Rattle.kinds.specs.declared.replies.Gate.the-variants.{Open}
 use Rattle.kinds.specs.declared.replies.Verdict.the-variants.{Go}
 use Rattle.rules.specs.Names.{Ask, Names}
-use Rattle.rules.specs.Control.{hasEntry}
+use Rattle.rules.specs.Codes.{writtenOn}
 use Rattle.rules.specs.Events.{Ecbs}
-use Rattle.rules.specs.Steps.{Step, Served}
+use Rattle.rules.specs.Steps.{Served}
 use Rattle.rules.specs.Admission.{gateOf}
 use Rattle.rules.specs.Enq.{enqVerdict}
 use Rattle.rules.specs.Serve.{Asked, serveOf}
 use Rattle.laws.specs.SystemNames.{enqAsked}
-use Rattle.laws.specs.NameByName.{NameByName, name-by-name, skips-all}
+use Rattle.laws.specs.ToQueue.{zeroCoded}
+use Rattle.laws.specs.NameByName.{had, stepWith, NameByName, name-by-name, skips-all}
 use Rattle.services.specs.Kept.{stepOf, tablesOf, saidWith, servedBy, soundb}
 use Rattle.services.specs.declared.Tables.{Tables}
 use Rattle.services.specs.declared.Answer.{Answer}
@@ -35,21 +38,23 @@ module _ (t : Tables) (c : TaskNumber) (l : Names) (es : Ecbs) (area : List ℕ)
   ruled : saidWith r codes ≡ servedBy (serveOf (stepOf t) asked)
   ruled = as-ruled t asked r codes h (promises k)
 
-  -- what is said, the tables and the codes are those of a step's answer that is as the section wants it
-  pub record CallGoes : Type 0 where
-    pub answer : Served Step
-    pub given : saidWith r codes ≡ servedBy answer
-    pub goes : NameByName (stepOf t) c l area answer
+  law : NameByName (stepOf t) c l area (serveOf (stepOf t) asked)
+  law = name-by-name (stepOf t) (sound-step t h) c o l es area g
 
-  pub call-name-by-name : CallGoes
-  call-name-by-name = record {
-    answer = serveOf (stepOf t) asked;
-    given = ruled;
-    goes = name-by-name (stepOf t) (sound-step t h) c o l es area g;
-  }
+  -- the names with code 0 are queued, these and no others, and only the caller's wait can begin
+  pub call-tables : r .tables ≡ tablesOf (stepWith (stepOf t) c (zeroCoded (stepOf t .queue) (c .0) Have l))
+  call-tables = ap (λ (v : Served Tables). v .outcome .tables) ruled ∙ ap tablesOf (law .tables)
+
+  -- 8 is written exactly where the caller had an entry before, and else 0
+  pub call-codes : codes ≡ writtenOn (map (λ (a : Ask). pick (had (stepOf t) c a) 8 0) (l .asks)) area
+  call-codes = ap (λ (v : Served Tables). v .codes) ruled ∙ law .codes
+
+  -- 4 is answered exactly where it had one, and else 0
+  pub call-number : numberOf (r .reply) ≡ pick (some (had (stepOf t) c) (l .asks)) 4 0
+  call-number = ap (λ (v : Served Tables). v .outcome .number) ruled ∙ law .number
 
   -- where all are skipped the very tables come back
-  pub call-skips-all : every (λ (a : Ask). hasEntry (stepOf t .queue) (c .0) (a .name)) (l .asks) ≡ true → r .tables ≡ t
+  pub call-skips-all : every (had (stepOf t) c) (l .asks) ≡ true → r .tables ≡ t
   call-skips-all e =
       ap (λ (v : Served Tables). v .outcome .tables) ruled
       ∙ ap tablesOf (skips-all (stepOf t) (sound-step t h) c o l es area g e)

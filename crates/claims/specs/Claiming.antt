@@ -65,7 +65,7 @@ abbrev pub sameTables : Queue → Family → Claims
 sameTables q f = record { queue = q; family = f }
 
 -- what is to be queued stands at the tail
-abbrev pub tailed : Ret → Queue → Family → ℕ → Names → Claims
+abbrev tailed : Ret → Queue → Family → ℕ → Names → Claims
 tailed ret q f c l = requeuedTo (withTail (entriesIn q) c (toQueue ret (entriesIn q) c l)) (f .places)
 
 -- CHNG's names are the caller's, exclusive

@@ -22,7 +22,7 @@ ghost use Rattle.kinds.specs.Limits.{mostEntries, longestList};
 ghost use Rattle.kinds.specs.declared.replies.Verdict.the-variants.{Go};
 ghost use Rattle.names.specs.Named.{namesIn};
 ghost use Rattle.rules.specs.Names.{namesOf, namesGood};
-ghost use Rattle.rules.specs.Control.{available, soleOwner};
+ghost use Rattle.rules.specs.Control.{soleOwner};
 ghost use Rattle.rules.specs.Enq.{enqCodes, enqCodesDue, withTail, enqWritten};
 ghost use Rattle.queue.specs.Queues.{entriesIn};
 ghost use Rattle.asks.specs.Coding.{codesOf};
@@ -43,15 +43,6 @@ fn write_codes(q: Queue, caller: TaskNumber, ret: Ret, names: NameList, codes: &
     k
 }
 
-// A request for each of the names, but for those that are skipped, would have control at once.
-fn all_available(q: Queue, names: NameList, skip: Flags) -> bool
-    requires { ⌜ (q .count ≤ mostEntries) × (names .count ≤ longestList) ⌝ }
-    ensures { λ r. ⌜ r ≡ every (available (entriesIn q)) (unskipped (skip .of) (namesIn names .asks)) ⌝ }
-{
-    let free = flags::available(q, names);
-    flags::all_set_but(free, skip, names.count)
-}
-
 // The names, but for those that are skipped, stand at the tail; unless each of them was available the caller waits.
 fn queued(q: Queue, f: Family, caller: TaskNumber, names: NameList, skip: Flags) -> Claims
     requires { ⌜ CallerAdmitted q f caller ⌝ }
@@ -61,7 +52,7 @@ fn queued(q: Queue, f: Family, caller: TaskNumber, names: NameList, skip: Flags)
         ≡ requeuedTo (withTail (entriesIn q) (caller .0) (unskipped (skip .of) (namesIn names .asks))) (f .places) ⌝ }
 {
     let entries = entries::enq::with_tail(q, caller, names, skip);
-    if all_available(q, names, skip) {
+    if flags::all_available(q, names, skip) {
         return Claims {
             queue: entries,
             family: f,
@@ -99,8 +90,8 @@ fn same(q: Queue, f: Family) -> Claims
     }
 }
 
-// What each RET kind does: USE and CHNG only if every code is 0. Whichever queues, the names with another code are
-// skipped: under NONE there is none, under USE then none.
+// What each RET kind does: USE and CHNG only if every code is 0. Whichever queues, names with a code other than 0 are
+// skipped; only HAVE can have such names here.
 fn change(
     q: Queue,
     f: Family,

@@ -20,14 +20,14 @@ use Rattle.queue.specs.declared.Queue.{Queue}
 use Rattle.queue.proofs.Views.{table}
 
 -- what the names at the places i to n - 1 ask for, but for the skipped
-abbrev pub asksLeft : List Bool → List Wanted → ℕ → ℕ → List Ask
+abbrev asksLeft : List Bool → List Wanted → ℕ → ℕ → List Ask
 asksLeft skip ws i n = leftFrom skip (map askOf ws) i n
 
 -- the slot of an entry for the name n that w asks for
 abbrev slotFor : ℕ → Wanted → Name → Slot
 slotFor t w n = record { task = record { 0 = t }; exclusive = w .exclusive; name = n }
 
--- what an array would show past its end, where no place of it is in question
+-- what is read of an array past its end, where a law asks for it and the place is within
 blank : Wanted
 blank = record { exclusive = false; name = record { major = []; minor = []; length = 0 } }
 

@@ -9,11 +9,10 @@ use lib.ListN.{length, getD, take, length-map, List·getD-map}
 use lib.Seq.{slice, slice-empty, length-take-le}
 use borrow.Author.Tests.{ltb-true, ltb-false}
 use Rattle.lists.specs.Bools.{and-left, and-right}
-use Rattle.lists.specs.Lists.{every, some, unskipped}
+use Rattle.lists.specs.Lists.{every, some}
 use Rattle.lists.specs.Tables.{padded, padded-take}
 use Rattle.lists.specs.Every.{slice-view, every-of, some-of}
 use Rattle.lists.specs.Filling.{filled-at}
-use Rattle.lists.specs.Skipping.{unskipped-map}
 use Rattle.kinds.specs.Limits.{longestList}
 use Rattle.kinds.specs.declared.names.Slot.{Slot}
 use Rattle.kinds.specs.declared.names.Wanted.{Wanted}
@@ -22,7 +21,7 @@ use Rattle.names.specs.Named.{askOf, namesIn}
 use Rattle.rules.specs.Names.{Ask}
 use Rattle.rules.specs.Control.{Entry, control, available}
 use Rattle.queue.specs.Queues.{entryOf}
-use Rattle.flags.specs.Flagging.{flagsOf, someSet, allSet, allSetBut}
+use Rattle.flags.specs.Flagging.{flagsOf, someSet, allSet}
 use Rattle.flags.proofs.Filled.{Filled, filled-all}
 use Rattle.flags.specs.declared.Flags.{Flags}
 
@@ -50,6 +49,23 @@ pub tail-available : (q : List Entry) (t : ℕ) (a : Ask)
     → available q a ≡ control q (record { task = t; exclusive = a .exclusive; name = a .name })
 unfolding available control
 tail-available q t a = refl
+
+-- the search for what bars the name at place i, which is made unless it is skipped, tells whether it passes
+pub name-passes : (q : List Entry) (skip : List Bool) (ws : List Wanted) (i : ℕ) (s : Bool) (d : Wanted) (free : Bool)
+    → (not (not (getD skip i s))
+    || control q (record { task = 0; exclusive = askOf (getD ws i d) .exclusive; name = askOf (getD ws i d) .name }))
+    ≡ free
+    → free ≡ (getD skip i s || available q (getD (map askOf ws) i (askOf d)))
+name-passes q skip ws i s d free h =
+    one (getD skip i s) h ∙ ap (λ (a : Ask). getD skip i s || available q a) (sym (List·getD-map askOf ws i d))
+  where
+    a : Ask
+    a = askOf (getD ws i d)
+
+    one : (b : Bool) → (not (not b) || control q (record { task = 0; exclusive = a .exclusive; name = a .name })) ≡ free
+        → free ≡ (b || available q a)
+    one true e = sym e
+    one false e = sym e ∙ sym (tail-available q 0 a)
 
 -- a loop to n that goes on is below n
 pub goes-on : (j n : ℕ) (b : Bool) → (ltb j n && b) ≡ true → j < n
@@ -101,10 +117,3 @@ module _ (f : Ask → Bool) (l : NameList) (r : Flags) (e : r ≡ flagsOf f (nam
   pub every-flag : allSet r (l .count) ≡ every f (namesIn l .asks)
   unfolding allSet
   every-flag = ap (every (λ (b : Bool). b)) flags-taken ∙ every-of f (λ (b : Bool). b) (namesIn l .asks)
-
-  pub every-flag-but : (skip : Flags) → allSetBut r skip (l .count) ≡ every f (unskipped (skip .of) (namesIn l .asks))
-  unfolding allSetBut
-  every-flag-but skip =
-      ap (λ (m : List Bool). every (λ (b : Bool). b) (unskipped (skip .of) m)) flags-taken
-      ∙ ap (every (λ (b : Bool). b)) (unskipped-map f (skip .of) (namesIn l .asks))
-      ∙ every-of f (λ (b : Bool). b) (unskipped (skip .of) (namesIn l .asks))

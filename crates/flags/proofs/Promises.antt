@@ -4,7 +4,7 @@ use Rattle.lists.specs.Promise.{Once}
 use Rattle.flags.proofs.lead.sole.Reads as sole
 use Rattle.flags.proofs.some_set.Reads as some-set
 use Rattle.flags.proofs.all_set.Reads as all-set
-use Rattle.flags.proofs.all_set_but.Reads as all-set-but
+use Rattle.flags.proofs.all_available.Reads as all-available
 use Rattle.flags.proofs.entered.Reads as entered
 use Rattle.flags.proofs.available.Reads as available
 
@@ -17,8 +17,8 @@ some-set-once k a x y e d p q = p ∙ sym q
 pub all-set-once : Once all-set.Post
 all-set-once k a x y e d p q = p ∙ sym q
 
-pub all-set-but-once : Once all-set-but.Post
-all-set-but-once k a x y e d p q = p ∙ sym q
+pub all-available-once : Once all-available.Post
+all-available-once k a x y e d p q = p ∙ sym q
 
 pub entered-once : Once entered.Post
 entered-once k a x y e d p q = p ∙ sym q

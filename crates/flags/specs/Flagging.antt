@@ -2,7 +2,7 @@
 use mathlib.Core.Bool.{Bool, false}
 use Prim.Native.Nat.{ℕ}
 use lib.ListN.{take}
-use Rattle.lists.specs.Lists.{every, some, unskipped}
+use Rattle.lists.specs.Lists.{every, some}
 use mathlib.Core.List.{map}
 use Rattle.lists.specs.Tables.{padded}
 use Rattle.kinds.specs.Limits.{longestList}
@@ -19,7 +19,3 @@ someSet f n = some (λ (b : Bool). b) (take n (f .of))
 
 unfoldable pub allSet : Flags → ℕ → Bool
 allSet f n = every (λ (b : Bool). b) (take n (f .of))
-
--- but for those that are skipped
-unfoldable pub allSetBut : Flags → Flags → ℕ → Bool
-allSetBut f skip n = every (λ (b : Bool). b) (unskipped (skip .of) (take n (f .of)))

@@ -8,12 +8,13 @@ use kinds::TaskNumber;
 use queue::Queue;
 ghost use mathlib.Core.Path.{_≡_};
 ghost use Prim.Native.Nat.{_≤_};
+ghost use Rattle.lists.specs.Lists.{every, unskipped};
 ghost use Rattle.kinds.specs.Limits.{mostEntries, longestList};
 ghost use Rattle.names.specs.Named.{resourceOf, namesIn};
 ghost use Rattle.rules.specs.Names.{Ask};
 ghost use Rattle.rules.specs.Control.{isFor, hasEntry, available as availableIn};
 ghost use Rattle.queue.specs.Queues.{entryOf, entriesIn};
-ghost use Rattle.flags.specs.Flagging.{flagsOf, someSet, allSet, allSetBut};
+ghost use Rattle.flags.specs.Flagging.{flagsOf, someSet, allSet};
 
 // One flag for each name beside a request, false past the count.
 pub struct Flags {
@@ -47,24 +48,6 @@ pub fn all_set(f: Flags, n: u32) -> bool
     while i < m {
         let b = f.of[i];
         if !b {
-            return false;
-        }
-        i += 1;
-    }
-    true
-}
-
-// All of the first n flags are set, but for those that are skipped.
-pub fn all_set_but(f: Flags, skip: Flags, n: u32) -> bool
-    requires { ⌜ n ≤ longestList ⌝ }
-    ensures { λ r. ⌜ r ≡ allSetBut f skip n ⌝ }
-{
-    let m = n as usize;
-    let mut i = 0;
-    while i < m {
-        let s = skip.of[i];
-        let b = f.of[i];
-        if !(s | b) {
             return false;
         }
         i += 1;
@@ -142,4 +125,39 @@ pub fn available(q: Queue, l: NameList) -> Flags
         i += 1;
     }
     r
+}
+
+// A request for each of the names would have control at once, but for those that are skipped, for which the queue is
+// not looked at.
+pub fn all_available(q: Queue, l: NameList, skip: Flags) -> bool
+    requires { ⌜ (q .count ≤ mostEntries) × (l .count ≤ longestList) ⌝ }
+    ensures { λ r. ⌜ r ≡ every (availableIn (entriesIn q)) (unskipped (skip .of) (namesIn l .asks)) ⌝ }
+{
+    let n = q.count;
+    let m = l.count as usize;
+    let mut i = 0;
+    while i < m {
+        let s = skip.of[i];
+        let w = l.names[i];
+        let name = w.name;
+        let e = Slot {
+            task: TaskNumber(0),
+            exclusive: w.exclusive,
+            name: name,
+        };
+        let sought = !s;
+        let mut free = true;
+        let mut j = 0;
+        while (j < n) & sought & free {
+            let x = q.slots[j];
+            let b = queue::bars(x, e);
+            free = !b;
+            j += 1;
+        }
+        if !free {
+            return false;
+        }
+        i += 1;
+    }
+    true
 }

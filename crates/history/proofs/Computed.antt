@@ -35,8 +35,8 @@ pub crossed-run : (oneAtATime nothing (turns crossed) ≡ false) × (weakHabit n
 unfolding rules-open
 crossed-run = (refl, refl, refl, refl)
 
--- with HAVE: both are answered 4, which breaks the habit, and the tasks wait for each other. A habit that does not hear
--- the 4 is kept.
+-- with HAVE: both are answered 4, what they queue breaks the habit, and the tasks wait for each other. A habit that
+-- does not hear the 4 is kept.
 pub have-crossed-run : (map (λ (u : Turn). u .number) (turns haveCrossed) ≡ 0 ∷ 0 ∷ 0 ∷ 0 ∷ 4 ∷ 4 ∷ [])
     × (oneAtATime nothing (turns haveCrossed) ≡ false) × (deafHabit nothing (turns haveCrossed) ≡ true)
     × (waitsFor (queueRead (turns haveCrossed)) 2 3 ≡ true) × (waitsFor (queueRead (turns haveCrossed)) 3 2 ≡ true)

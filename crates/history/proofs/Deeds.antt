@@ -1,15 +1,15 @@
 -- What a turn says by its request and its reply is what its effect does: who is attached, queued, released and ended.
 use Prim.Native.Nat.{ℕ, zero, suc}
 use mathlib.Core.Path.{_≡_, refl, sym, ap, subst, _∙_}
-use mathlib.Core.Bool.{Bool, true, false, not, cond, _&&_, _||_, or-true, or-false, false≢true}
+use mathlib.Core.Bool.{Bool, true, false, not, cond, _&&_, _||_, or-true, or-false, and-false, false≢true}
 use mathlib.Core.List.{List, [], _∷_, _++_, map}
 use mathlib.Core.Logic.{_⊎_, inl, inr}
 use lib.Dec.{eqb}
 use borrow.Author.Tests.{eqb-true, eq-eqb}
 use Rattle.lists.specs.Lists.{keep, some}
-use Rattle.lists.specs.Bools.{both, either, never, decided}
+use Rattle.lists.specs.Bools.{both, either}
 use Rattle.lists.specs.Every.{some-of}
-use Rattle.lists.specs.Keeping.{some-keep}
+use Rattle.lists.specs.Keeping.{some-left}
 use Rattle.kinds.specs.Limits.{jobStepTask, highestTask}
 use Rattle.kinds.specs.Replies.{faults, isFault, faultNumber}
 use Rattle.kinds.specs.declared.requests.Request.{Request}
@@ -26,6 +26,7 @@ use Rattle.rules.specs.Reading.{Turn, Effect, NoEffect, Queues, Releases, Chang
 use Rattle.rules.specs.Reading.{linksBy, motherIn, climbs, endsWith, endsAlone}
 use Rattle.rules.specs.Reading.{Reading, enqEffect, ifDone, wentOn, effectOf, nothing, reading}
 use Rattle.laws.specs.SameNames.{name-sym, name-eq}
+use Rattle.laws.specs.Among.{some-same, some-kept}
 use Rattle.history.specs.Told.{task, Attached, IsAttached, Mother, Below, EndsWith, Has, Queued, Released}
 use Rattle.history.specs.Told.{Ended}
 use Rattle.history.specs.Told.Attached.{attach}
@@ -36,7 +37,7 @@ use Rattle.history.specs.Told.Ended.{end, abend, detach, fault}
 use Rattle.history.proofs.Effects.{entryAs, fault-effect}
 
 -- the mothers that are read from turns
-abbrev pub motherRead : List Turn → ℕ → ℕ
+abbrev motherRead : List Turn → ℕ → ℕ
 motherRead us = motherIn (reading nothing us .links)
 
 -- they are those whom the turns tell of
@@ -64,32 +65,17 @@ brings-asked c t n l = some-of (entryFor c) (isFor t n) l ∙ one (eqb c t) l
     one false [] = refl
     one false (a ∷ k) = one false k
 
--- what is kept of a list was in it
-some-kept : {A : Type 0} (p f : A → Bool) (l : List A) → some p (keep f l) ≡ true → some p l ≡ true
-some-kept p f l h = one (decided (some p l))
-  where
-    one : (some p l ≡ true) ⊎ (some p l ≡ false) → some p l ≡ true
-    one (inl e) = e
-    one (inr e) = never (some p (keep f l)) h (some-keep p f l e)
-
--- an ask for a name that task t has no entry for is kept
+-- where task t has no entry for the name, an ask for it is kept of those for which it has none
 kept-named : (q : List Entry) (t : ℕ) (n : Resource) → hasEntry q t n ≡ false → (l : List Ask)
-    → some (λ (a : Ask). sameName (a .name) n) l ≡ true
-    → some (λ (a : Ask). sameName (a .name) n) (keep (fresh q t) l) ≡ true
-kept-named q t n e [] h = h
-kept-named q t n e (a ∷ l) h = one (sameName (a .name) n) (fresh q t a) refl refl h (kept-named q t n e l)
+    → some (λ (a : Ask). sameName (a .name) n) (keep (fresh q t) l) ≡ some (λ (a : Ask). sameName (a .name) n) l
+kept-named q t n e l =
+    some-kept (λ (a : Ask). sameName (a .name) n) (fresh q t) l
+    ∙ some-same (λ (a : Ask). fresh q t a && sameName (a .name) n) (λ (a : Ask). sameName (a .name) n)
+    (λ a. one a (sameName (a .name) n) refl) l
   where
-    asks : Ask → Bool
-    asks b = sameName (b .name) n
-
-    one : (i f : Bool) → sameName (a .name) n ≡ i → fresh q t a ≡ f → (i || some asks l) ≡ true
-        → (some asks l ≡ true → some asks (keep (fresh q t) l) ≡ true)
-        → some asks (cond f (a ∷ keep (fresh q t) l) (keep (fresh q t) l)) ≡ true
-    one true true i f h ih = rw i
-    one true false i f h ih =
-        absurd (false≢true (sym f ∙ ap (λ (k : Resource). not (hasEntry q t k)) (name-eq (a .name) n i) ∙ ap not e))
-    one false true i f h ih = or-later (asks a) _ (ih h)
-    one false false i f h ih = ih h
+    one : (a : Ask) (b : Bool) → sameName (a .name) n ≡ b → (fresh q t a && b) ≡ b
+    one a true i = rw (name-eq (a .name) n i, e)
+    one a false i = and-false (fresh q t a)
 
 -- WHO ENDS
 
@@ -159,7 +145,7 @@ module _ (past : List Turn) (law : MothersTold past) where
     asked c Test done e z g = tt
     asked c Use done e z g = if-done done (Queues c (u .names .asks)) (λ d n h. enq Use e (inr refl) (z d) h)
     asked c Have done e z g =
-        λ n h. have e g (some-kept (λ (a : Ask). sameName (a .name) n) (fresh (read .queue) c) (u .names .asks) h)
+        λ n h. have e g (some-left (λ (a : Ask). sameName (a .name) n) (fresh (read .queue) c) (u .names .asks) h)
     asked c Chng done e z g = if-done done (Changes c (namesOf (u .names))) (λ d. tt)
 
     alone-told : (c t : ℕ) → endsAlone c t ≡ true → (c ≡ jobStepTask) ⊎ (t ≡ c)
@@ -272,8 +258,8 @@ module _ (past : List Turn) (law : MothersTold past) where
     pub attached-links : {p c : ℕ} → Attached p c u → linksBy (effectOf read u) ≡ record { child = c; mother = p } ∷ []
     attached-links (attach lpmod dpmod ecb r z b) = rw (z, r, b)
 
-    -- the entry is there then: it comes, or it was there and stays
-    abbrev Stands : ℕ → Resource → Effect → Type 0
+    -- the entry is there then: it was there and stays, or it comes
+    abbrev pub Stands : ℕ → Resource → Effect → Type 0
     Stands t n ev =
         ((hasEntry (read .queue) t n && not (takes ev (entryAs t n))) || hasEntry (brings ev) t n) ≡ true
 
@@ -286,7 +272,7 @@ module _ (past : List Turn) (law : MothersTold past) where
         → ((b && true) || hasEntry (map (entryFor t) (keep (fresh (read .queue) t) (u .names .asks))) t n) ≡ true
     skips-had t n true e h = refl
     skips-had t n false e h =
-        comes t n (keep (fresh (read .queue) t) (u .names .asks)) (kept-named (read .queue) t n e (u .names .asks) h)
+        comes t n (keep (fresh (read .queue) t) (u .names .asks)) (kept-named (read .queue) t n e (u .names .asks) ∙ h)
 
     pub queued-stands : (t : ℕ) (n : Resource) → Queued t n u → Stands t n (effectOf read u)
     unfolding toQueue

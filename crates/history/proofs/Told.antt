@@ -19,7 +19,7 @@ use Rattle.laws.specs.SameNames.{name-eq}
 use Rattle.history.specs.Told.{Queued, Released, Ended, StillQueued, InQueue, QueueTold}
 use Rattle.history.proofs.Since.{since-none, since-last, since-next, since-back, by-turns}
 use Rattle.history.proofs.Effects.{entryAs, makes-same, takes-by}
-use Rattle.history.proofs.Deeds.{taken-gone, brought-queued, queued-stands, gone-taken}
+use Rattle.history.proofs.Deeds.{taken-gone, brought-queued, Stands, queued-stands, gone-taken}
 use Rattle.history.proofs.ToldMothers.{reading-last, mothers-told}
 use Rattle.history.proofs.Runs.{run-keeps}
 
@@ -97,7 +97,7 @@ module _ (t : ℕ) (n : Resource) where
     then-in s = then-read ∙ one (since-back QueuesIt EndsIt us u s)
       where
         one : Queued t n u ⊎ (StillQueued t n us × (Released t n u ⊎ Ended us t u → ⊥))
-            → ((hasEntry q t n && not (takes ev (entryAs t n))) || hasEntry (brings ev) t n) ≡ true
+            → Stands us (mothers-told us) u t n ev
         one (inl d) = queued-stands us (mothers-told us) u t n d
         one (inr b) =
             let g = not-so (takes ev (entryAs t n)) (λ h. b .1 (taken-gone us (mothers-told us) u t n h)) in

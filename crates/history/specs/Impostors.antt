@@ -1,10 +1,10 @@
 -- IMPOSTORS: readings, habits and services that are nearly right. None of them meets demand 3.
 use mathlib.Core.Path.{_≡_}
-use mathlib.Core.Bool.{Bool, true, false, not, cond, _&&_}
+use mathlib.Core.Bool.{Bool, true, not, cond, _&&_}
 use mathlib.Core.List.{List, [], _∷_, _++_, map}
 use lib.Dec.{eqb}
 use lib.ListN.{take}
-use Rattle.lists.specs.Lists.{keep}
+use Rattle.lists.specs.Lists.{keep, some}
 use Rattle.kinds.specs.Tasks.{withCondition}
 use Rattle.kinds.specs.declared.tasks.Task.{Task}
 use Rattle.rules.specs.Control.{Entry, lacks}
@@ -14,7 +14,7 @@ use Rattle.rules.specs.Rings.{Ring}
 use Rattle.rules.specs.Steps.{Step, Outcome, withTasks, withQueue, keptBy}
 use Rattle.rules.specs.Serve.{Asked, serveOf}
 use Rattle.rules.specs.Reading.{Turn, Effect, NoEffect, Queues, Releases, Changes, Ends, Attaches, effectOf}
-use Rattle.rules.specs.Reading.{Reading, nothing, readBy, reads, queueRead, breaks}
+use Rattle.rules.specs.Reading.{Reading, nothing, readBy, reads, queueRead, brings, breaks}
 use Rattle.rules.specs.DemandThree.{Run, Fresh, Demand3}
 use Rattle.history.specs.Samples.{turnsBy, comesTo, start}
 
@@ -25,12 +25,7 @@ Ringless habit =
 
 -- the effect brings an entry of a task that lacks control
 abbrev presses : Effect → List Entry → Bool
-presses NoEffect q = false
-presses (Queues t asks) q = lacks t q
-presses (Releases t ns) q = false
-presses (Changes t ns) q = false
-presses (Ends who) q = false
-presses (Attaches m n) q = false
+presses ev q = some (λ (e : Entry). lacks (e .task) q) (brings ev)
 
 -- no task queued while an earlier request of its lacked control
 abbrev pub weakHabit : Reading → List Turn → Bool
@@ -79,7 +74,7 @@ unqueued (Attaches m n) = Attaches m n
 abbrev pub deafToFour : List Turn → List Entry
 deafToFour us = readBut (λ u ev. cond (eqb (u .number) 4) (unqueued ev) ev) us
 
--- of whatever is queued the whole list is
+-- where an ENQ queued anything, its whole list is read as queued
 abbrev wholly : Turn → Effect → Effect
 wholly u NoEffect = NoEffect
 wholly u (Queues t asks) = Queues t (u .names .asks)

@@ -65,17 +65,17 @@ pub enq-codes-due-under-none : RuledOut (λ k. fits-Ret ⊗ fits-end) enq-codes-
 unfolding tables-open
 enq-codes-due-under-none = wrong-at tt (None, tt) refl tt (λ b. b) refl refl
 
--- all but those that may queue
-abbrev everywhereElse : Ret → Bool
-everywhereElse None = false
-everywhereElse Test = true
-everywhereElse Use = false
-everywhereElse Have = false
-everywhereElse Chng = true
+-- the RET kinds that never queue
+abbrev queuesNothing : Ret → Bool
+queuesNothing None = false
+queuesNothing Test = true
+queuesNothing Use = false
+queuesNothing Have = false
+queuesNothing Chng = true
 
 -- codes are due only where nothing is queued, and so not under USE
 pub enq-codes-due-where-nothing-is-queued : RuledOut (λ k. fits-Ret ⊗ fits-end) enq-codes-due.Pre enq-codes-due.Post
-    (λ k a. everywhereElse (a .0))
+    (λ k a. queuesNothing (a .0))
 unfolding tables-open
 enq-codes-due-where-nothing-is-queued = wrong-at tt (Use, tt) refl tt not refl refl
 
@@ -170,11 +170,11 @@ pub all-zero-but-the-last : RuledOut (λ k. fits-Codes ⊗ fits-u32 ⊗ fits-end
 unfolding tables-open
 all-zero-but-the-last = wrong-at tt (codes (0 ∷ 8 ∷ []), (2, tt)) refl (omega arith) (λ b. b) refl refl
 
--- only a code 8 is skipped: a 4 is not
-pub skipped-8-only : RuledOut (λ k. fits-Codes ⊗ fits-end) skipped.Pre skipped.Post
+-- a code 4 is not skipped
+pub skipped-no-4 : RuledOut (λ k. fits-Codes ⊗ fits-end) skipped.Pre skipped.Post
     (λ k a. record { of = map (eqb 8) (a .0 .bytes) })
 unfolding tables-open
-skipped-8-only = wrong-at tt (codes (4 ∷ []), tt) refl tt (λ f. not (getD (f .of) 0 true)) refl refl
+skipped-no-4 = wrong-at tt (codes (4 ∷ []), tt) refl tt (λ f. not (getD (f .of) 0 true)) refl refl
 
 -- the names with code 0 are skipped: of 8 and 0, the second
 pub skipped-the-zeros : RuledOut (λ k. fits-Codes ⊗ fits-end) skipped.Pre skipped.Post

@@ -47,8 +47,8 @@ use Rattle.impostors.specs.Fitting.{fits-TaskNumber, fits-end, fits-lent
 use Rattle.impostors.specs.Opened.{tables-open}
 use Rattle.impostors.specs.Samples.{task, namesOf, after, z, owned as ownedRun, awaited as awaitedRun}
 use Rattle.impostors.specs.Samples.{sharedByOne, sharesAndOwns}
-use Rattle.impostors.specs.Haves.{ifHave, Doing, allOrNothing, skippedQueued, skipsNothing, lastFirst, madeSo}
-use Rattle.impostors.specs.Haves.{neverWaits, answersZero}
+use Rattle.impostors.specs.Haves.{ifHave, Doing, allOrNothing, skippedQueued, skipsNothing, lastFirst}
+use Rattle.impostors.specs.Haves.{skippedMadeExclusive, neverWaits, answersZero}
 use Rattle.impostors.specs.Parts.{lent}
 use Rattle.impostors.specs.Wrong.{RuledOutWith, wrong-result, wrong-area}
 
@@ -151,13 +151,23 @@ claimed-goes-on-without-control =
     (owned-packed, admits owned (task 2) refl refl refl)
     (λ r. isReady (conditionOf (r .tables .family .places) 2)) refl refl
 
--- only the first code has to be 0, and all names are queued
+-- the RET kind is USE
+abbrev isUse : Ret → Bool
+isUse None = false
+isUse Test = false
+isUse Use = true
+isUse Have = false
+isUse Chng = false
+
+-- under USE only the first code has to be 0
 abbrev byFirstCode : Given Ret → Claims
 byFirstCode a =
     onGo (enqSays a)
+    (pick (isUse (ret a))
     (pick (allZero (take 1 (enqCodesOf a)))
     (requeuedTo (withTail (queue a) (caller a .0) (names a .asks)) (a .1 .0 .places))
     (before a))
+    (enqAnswer a .tables))
     (before a)
 
 -- 2 asks by USE for y and x, with the codes 0 and 4, and is queued for y
@@ -252,7 +262,7 @@ claimed-have-last-first =
     (λ r. sameName (entryAt 2 r .name) z) refl refl
 
 pub claimed-have-makes-exclusive : RuledOutWith (λ k. fits-Given fits-Ret) claimed.Pre claimed.Post
-    (λ k a. having madeSo a)
+    (λ k a. having skippedMadeExclusive a)
 unfolding tables-open
 claimed-have-makes-exclusive =
     wrong-result ([], tt) asksMixed refl (mixed-packed, admits mixed (task 1) refl refl refl)

@@ -73,19 +73,19 @@ release-all-of-the-caller =
     wrong-at tt (storedEntries three, (task 1, (listOf (shr x ∷ []), tt))) refl (three-packed, omega arith)
     (λ q. not (hasEntry (entriesIn q) 1 y)) refl refl
 
--- what is given to the tail: 2 asks for these names behind the three, of which those with a flag are skipped; that it
--- fits, and the names that are left
-abbrev Tails : Type 0
-Tails = Queue × (TaskNumber × (NameList × (Flags × Unit {0})))
+-- the queue, the task, its names, and which of them are skipped; that they fit
+abbrev Tail : Type 0
+Tail = Queue × (TaskNumber × (NameList × (Flags × Unit {0})))
 
-abbrev fits-Tail : Tails → Bool
+abbrev fits-Tail : Tail → Bool
 fits-Tail = fits-Queue ⊗ fits-TaskNumber ⊗ fits-NameList ⊗ fits-Flags ⊗ fits-end
 
-abbrev tailOf : ℕ → List Ask → List Bool → Tails
-tailOf c l skip =
-    (storedEntries three, (task c, (listOf l, (record { of = padded longestList false skip }, tt))))
+-- behind the three 2 asks for these names
+abbrev tailOf : List Ask → List Bool → Tail
+tailOf l skip = (storedEntries three, (task 2, (listOf l, (record { of = padded longestList false skip }, tt))))
 
-abbrev left : Tails → List Ask
+-- the names that are not skipped
+abbrev left : Tail → List Ask
 left a = unskipped (a .1 .1 .1 .0 .of) (namesIn (a .1 .1 .0) .asks)
 
 -- the new entries come to the front: 2 asks for y behind task 1
@@ -94,7 +94,7 @@ pub with-tail-at-the-front :
     (λ k a. storedEntries (map (entryFor (a .1 .0 .0)) (left a) ++ entriesIn (a .0)))
 unfolding tables-open
 with-tail-at-the-front =
-    wrong-at tt (tailOf 2 (shr y ∷ []) (false ∷ [])) refl (three-packed, omega arith, omega arith, refl)
+    wrong-at tt (tailOf (shr y ∷ []) (false ∷ [])) refl (three-packed, omega arith, omega arith, refl)
     (λ q. eqb (entryAt 0 q .task) 2) refl refl
 
 -- every entry is shared: 2 asks for y exclusive
@@ -103,7 +103,7 @@ pub with-tail-all-shared :
     (λ k a. storedEntries (entriesIn (a .0) ++ map (λ (w : Ask). entryFor (a .1 .0 .0) (shr (w .name))) (left a)))
 unfolding tables-open
 with-tail-all-shared =
-    wrong-at tt (tailOf 2 (exc y ∷ []) (false ∷ [])) refl (three-packed, omega arith, omega arith, refl)
+    wrong-at tt (tailOf (exc y ∷ []) (false ∷ [])) refl (three-packed, omega arith, omega arith, refl)
     (λ q. not (entryAt 3 q .exclusive)) refl refl
 
 -- nothing is skipped: 2 asks for y and z, and y is skipped
@@ -112,7 +112,7 @@ pub with-tail-skips-nothing :
     (λ k a. storedEntries (withTail (entriesIn (a .0)) (a .1 .0 .0) (namesIn (a .1 .1 .0) .asks)))
 unfolding tables-open
 with-tail-skips-nothing =
-    wrong-at tt (tailOf 2 (exc y ∷ exc z ∷ []) (true ∷ false ∷ [])) refl (three-packed, omega arith, omega arith, refl)
+    wrong-at tt (tailOf (exc y ∷ exc z ∷ []) (true ∷ false ∷ [])) refl (three-packed, omega arith, omega arith, refl)
     (λ q. hasEntry (entriesIn q) 2 y) refl refl
 
 -- the skipped are queued, and the others left out: of y and z, y
@@ -122,7 +122,7 @@ pub with-tail-of-the-skipped :
     (unskipped (map not (a .1 .1 .1 .0 .of)) (namesIn (a .1 .1 .0) .asks))))
 unfolding tables-open
 with-tail-of-the-skipped =
-    wrong-at tt (tailOf 2 (exc y ∷ exc z ∷ []) (true ∷ false ∷ [])) refl (three-packed, omega arith, omega arith, refl)
+    wrong-at tt (tailOf (exc y ∷ exc z ∷ []) (true ∷ false ∷ [])) refl (three-packed, omega arith, omega arith, refl)
     (λ q. hasEntry (entriesIn q) 2 y) refl refl
 
 -- the last of the names comes first: 2 asks for y and z
@@ -131,7 +131,7 @@ pub with-tail-last-first :
     (λ k a. storedEntries (withTail (entriesIn (a .0)) (a .1 .0 .0) (reverse (left a))))
 unfolding tables-open
 with-tail-last-first =
-    wrong-at tt (tailOf 2 (exc y ∷ exc z ∷ []) (false ∷ false ∷ [])) refl (three-packed, omega arith, omega arith, refl)
+    wrong-at tt (tailOf (exc y ∷ exc z ∷ []) (false ∷ false ∷ [])) refl (three-packed, omega arith, omega arith, refl)
     (λ q. sameName (entryAt 3 q .name) z) refl refl
 
 -- the entries for the names become exclusive, whoever's they

@@ -5,23 +5,26 @@ use mathlib.Core.List.{List, [], _∷_, map}
 use Prim.Native.Nat.{_+_}
 use native.Mathlib.Omega.{arith}
 use lib.ListN.{take, getD}
-use Rattle.lists.specs.Lists.{every, some, alike}
+use Rattle.lists.specs.Lists.{every, some, alike, unskipped}
 use Rattle.lists.specs.Tables.{padded}
 use Rattle.kinds.specs.Limits.{longestList}
+use Rattle.kinds.specs.declared.names.NameList.{NameList}
 use Rattle.rules.specs.Names.{Ask, sameName}
-use Rattle.rules.specs.Control.{Entry, ofTask, isFor, hasEntry, queueOf, granted, holding, owners}
+use Rattle.rules.specs.Control.{Entry, ofTask, isFor, hasEntry, queueOf, granted, available as availableIn}
+use Rattle.rules.specs.Control.{holding, owners}
 use Rattle.rules.specs.Table.{shr, exc}
 use Rattle.rules.specs.Enq.{entryFor}
-use Rattle.history.specs.Samples.{x}
+use Rattle.history.specs.Samples.{x, y}
 use Rattle.names.specs.Named.{namesIn}
 use Rattle.queue.specs.Queues.{entriesIn, storedEntries}
-use Rattle.flags.specs.Flagging.{flagsOf, someSet, allSet, allSetBut}
+use Rattle.queue.specs.declared.Queue.{Queue}
+use Rattle.flags.specs.Flagging.{flagsOf, someSet, allSet}
 use Rattle.flags.specs.declared.Flags.{Flags}
 use Rattle.flags.proofs.some_set.Reads as some-set
 use Rattle.flags.proofs.all_set.Reads as all-set
-use Rattle.flags.proofs.all_set_but.Reads as all-set-but
 use Rattle.flags.proofs.entered.Reads as entered
 use Rattle.flags.proofs.available.Reads as available
+use Rattle.flags.proofs.all_available.Reads as all-available
 use Rattle.flags.proofs.lead.sole.Reads as sole
 use Rattle.impostors.specs.Fitting.{_⊗_, fits-Flags, fits-NameList, fits-Queue, fits-TaskNumber, fits-end}
 use Rattle.impostors.specs.Fitting.{fits-u32}
@@ -64,22 +67,6 @@ pub all-set-of-all-16 : RuledOut (λ k. fits-Flags ⊗ fits-u32 ⊗ fits-end) al
     (λ k a. every (λ (b : Bool). b) (a .0 .of))
 unfolding tables-open
 all-set-of-all-16 = wrong-at tt (flags true false, (1, tt)) refl (omega arith) not refl refl
-
--- the skipped count too: of two, the second is not set, and skipped
-pub all-set-but-none-skipped :
-    RuledOut (λ k. fits-Flags ⊗ fits-Flags ⊗ fits-u32 ⊗ fits-end) all-set-but.Pre all-set-but.Post
-    (λ k a. allSet (a .0) (a .1 .1 .0))
-unfolding tables-open
-all-set-but-none-skipped =
-    wrong-at tt (flags true false, (flags false true, (2, tt))) refl (omega arith) not refl refl
-
--- only the skipped count: of two, the first is not set, and not skipped
-pub all-set-but-of-the-skipped :
-    RuledOut (λ k. fits-Flags ⊗ fits-Flags ⊗ fits-u32 ⊗ fits-end) all-set-but.Pre all-set-but.Post
-    (λ k a. allSetBut (a .0) (record { of = map not (a .1 .0 .of) }) (a .1 .1 .0))
-unfolding tables-open
-all-set-but-of-the-skipped =
-    wrong-at tt (flags false true, (flags false true, (2, tt))) refl (omega arith) (λ b. b) refl refl
 
 -- anybody's entry counts: 4 asks for x
 pub entered-by-anybody :
@@ -127,6 +114,35 @@ unfolding tables-open
 available-to-exclusive-requests =
     wrong-at tt (storedEntries (take 2 waited), (namesOf (exc x ∷ []), tt)) refl
     (omega arith, omega arith) flag refl refl
+
+-- what is asked of all names at once: behind the three shared and exclusive entries for x, by whether it is skipped and
+-- whether y, which nobody has, is
+abbrev Alls : Type 0
+Alls = Queue × (NameList × (Flags × Unit {0}))
+
+abbrev fits-Alls : Alls → Bool
+fits-Alls = fits-Queue ⊗ fits-NameList ⊗ fits-Flags ⊗ fits-end
+
+abbrev xAndY : Bool → Bool → Alls
+xAndY skipX skipY = (storedEntries waited, (namesOf (shr x ∷ exc y ∷ []), (flags skipX skipY, tt)))
+
+-- the skipped count too: x, which is not available, is skipped
+pub all-available-none-skipped : RuledOut (λ k. fits-Alls) all-available.Pre all-available.Post
+    (λ k a. every (availableIn (entriesIn (a .0))) (namesIn (a .1 .0) .asks))
+unfolding tables-open
+all-available-none-skipped = wrong-at tt (xAndY true false) refl (omega arith, omega arith) not refl refl
+
+-- only the skipped count: y, which is available, is skipped
+pub all-available-of-the-skipped : RuledOut (λ k. fits-Alls) all-available.Pre all-available.Post
+    (λ k a. every (availableIn (entriesIn (a .0))) (unskipped (map not (a .1 .1 .0 .of)) (namesIn (a .1 .0) .asks)))
+unfolding tables-open
+all-available-of-the-skipped = wrong-at tt (xAndY false true) refl (omega arith, omega arith) (λ b. b) refl refl
+
+-- one is enough: y, of x and y
+pub all-available-one-is-enough : RuledOut (λ k. fits-Alls) all-available.Pre all-available.Post
+    (λ k a. some (availableIn (entriesIn (a .0))) (unskipped (a .1 .1 .0 .of) (namesIn (a .1 .0) .asks)))
+unfolding tables-open
+all-available-one-is-enough = wrong-at tt (xAndY false false) refl (omega arith, omega arith) (λ b. b) refl refl
 
 -- only the first owner is looked at: task 1, beside whom 2 owns x
 pub sole-by-the-first-owner : RuledOut (λ k. fits-Queue ⊗ fits-TaskNumber ⊗ fits-NameList ⊗ fits-end) sole.Pre sole.Post

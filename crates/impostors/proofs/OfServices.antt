@@ -37,7 +37,7 @@ use Rattle.kinds.specs.declared.replies.Gate.{Gate}
 use Rattle.kinds.specs.declared.replies.Gate.the-variants.{Open, Shut}
 use Rattle.names.specs.Named.{namesIn}
 use Rattle.events.specs.Blocks.{ecbsIn}
-use Rattle.rules.specs.Names.{Ask, Names, sameName, namesOf as resources}
+use Rattle.rules.specs.Names.{Resource, Ask, Names, sameName, namesOf as resources}
 use Rattle.rules.specs.Control.{Entry}
 use Rattle.rules.specs.Rings.{waitsFor, leadsBy, tasksQueued, stuck as stuckOf}
 use Rattle.rules.specs.Reports.{StuckTask, firstStuckAt, stuckItem, standing, queuesOf, queueItem, ItemList, itemised}
@@ -46,7 +46,8 @@ use Rattle.rules.specs.Reports.{queuesReport}
 use Rattle.rules.specs.Family.{place, withPlace, conditionOf, below}
 use Rattle.rules.specs.Steps.{Step, Outcome, Served, done, doneWith, refused, keptBy, overStep, withTasks, withQueue}
 use Rattle.rules.specs.Steps.{withEcbs, withAreas, untouched}
-use Rattle.rules.specs.Table.{named, shr, exc, counted}
+use Rattle.rules.specs.Table.{named, shr, exc}
+use Rattle.rules.specs.Examples.{filled}
 use Rattle.rules.specs.SystemCases.{beginning, sysdsn, sysdsnWith}
 use Rattle.rules.specs.Alike.{kindOf}
 use Rattle.rules.specs.Tests.{refuse, fail, firstOf}
@@ -107,8 +108,9 @@ use Rattle.impostors.specs.Answers.{answerOf, answering, but, butServed,
 use Rattle.impostors.proofs.OfSoundness.{Given, judged as soundBy, lengthsOnly}
 use Rattle.impostors.specs.Verdicts.{Judge, keepingOff, never110, firstOnly, twoBytes, inMinorToo, byName}
 use Rattle.impostors.specs.Verdicts.{unlessTest, after104, before101, deqKeepingOff, enqJudged, deqJudged}
-use Rattle.impostors.specs.Haves.{Doing, allOrNothing, skippedQueued, skipsNothing, lastFirst, madeSo, neverWaits}
-use Rattle.impostors.specs.Haves.{answersZero, enqDoing, fullBy, wholeList, noneFree}
+use Rattle.impostors.specs.Haves.{Doing, allOrNothing, skippedQueued, skipsNothing, lastFirst}
+use Rattle.impostors.specs.Haves.{skippedMadeExclusive, neverWaits, answersZero, enqDoing, fullBy, wholeList}
+use Rattle.impostors.specs.Haves.{noneFree}
 
 -- the tables after a run from a fresh step
 abbrev tables : List Asking → Tables
@@ -447,7 +449,8 @@ enq-have-last-first =
     wrong-with ([], tt) asksMixed refl tt (λ o. sameName (entryBehind 2 o .name) z) refl refl
 
 -- the skipped shared entry for x is made exclusive
-pub enq-have-makes-exclusive : RuledOutWith (λ k. fits-Coded fits-Ret) enq.Pre enq.Post (λ k a. enqHaving madeSo a)
+pub enq-have-makes-exclusive : RuledOutWith (λ k. fits-Coded fits-Ret) enq.Pre enq.Post
+    (λ k a. enqHaving skippedMadeExclusive a)
 unfolding tables-open
 enq-have-makes-exclusive = wrong-with ([], tt) asksMixed refl tt (λ o. entryBehind 0 o .exclusive) refl refl
 
@@ -463,17 +466,18 @@ enq-have-answers-0 = wrong-with ([], tt) asksMixed refl tt (λ o. eqb (o .outcom
 
 -- so many entries of task 1, which asks by HAVE for these names
 abbrev fullAsking : ℕ → List Ask → List ℕ → Coded Ret
-fullAsking n l area = (
-  tablesOf (withQueue start (counted (λ i. entryFor 1 (exc (named 88 (i ∷ [])))) 1 n)),
-  (task 1, (Have, (namesOf l, (lent area, tt)))),
-)
+fullAsking n l area = (tablesOf (filled n), (task 1, (Have, (namesOf l, (lent area, tt)))))
+
+-- the first of them
+abbrev firstHeld : Resource
+firstHeld = named 1 (0 ∷ [])
 
 -- 105 by the whole list: 127 entries, and one of them and y are asked for
 pub enq-105-by-the-whole-list : RuledOutWith (λ k. fits-Coded fits-Ret) enq.Pre enq.Post
     (λ k a. enqBy (fullBy wholeList) a)
 unfolding tables-open
 enq-105-by-the-whole-list =
-    wrong-with ([], tt) (fullAsking 127 (exc x ∷ exc y ∷ []) (238 ∷ 238 ∷ [])) refl tt
+    wrong-with ([], tt) (fullAsking 127 (exc firstHeld ∷ exc y ∷ []) (238 ∷ 238 ∷ [])) refl tt
     (λ o. eqb (o .outcome .number) 105) refl refl
 
 -- 105 with nothing to queue: 128 entries, and one of them is asked for
@@ -481,7 +485,8 @@ pub enq-105-with-nothing-to-queue : RuledOutWith (λ k. fits-Coded fits-Ret) enq
     (λ k a. enqBy (fullBy noneFree) a)
 unfolding tables-open
 enq-105-with-nothing-to-queue =
-    wrong-with ([], tt) (fullAsking 128 (exc x ∷ []) (238 ∷ [])) refl tt (λ o. eqb (o .outcome .number) 105) refl refl
+    wrong-with ([], tt) (fullAsking 128 (exc firstHeld ∷ []) (238 ∷ [])) refl tt
+    (λ o. eqb (o .outcome .number) 105) refl refl
 
 -- DEQ
 

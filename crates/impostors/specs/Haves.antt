@@ -39,12 +39,9 @@ Doing = Step → ℕ → Names → Outcome Step
 abbrev leaving : (Step → ℕ → Names → Step) → Doing
 leaving f s c l = coded (enqCodes Have (s .queue) c l) (f s c l)
 
--- it queues other asks, behind this queue
-abbrev queueing : (List Entry → ℕ → Names → List Entry) → (List Entry → ℕ → Names → List Ask) → Doing
-queueing before asks = leaving (λ s c l. requeued s (withTail (before (s .queue) c l) c (asks (s .queue) c l)))
-
-abbrev asItIs : List Entry → ℕ → Names → List Entry
-asItIs q c l = q
+-- it queues other asks
+abbrev queueing : (List Entry → ℕ → Names → List Ask) → Doing
+queueing asks = leaving (λ s c l. requeued s (withTail (s .queue) c (asks (s .queue) c l)))
 
 -- all or nothing, as document 01 alone would have it
 abbrev pub allOrNothing : Doing
@@ -52,21 +49,23 @@ allOrNothing = leaving (λ s c l. onlyIfZero (enqCodes Have (s .queue) c l) (enq
 
 -- the skipped are queued, and the others left out
 abbrev pub skippedQueued : Doing
-skippedQueued = queueing asItIs (λ q c l. keep (λ (a : Ask). hasEntry q c (a .name)) (l .asks))
+skippedQueued = queueing (λ q c l. keep (λ (a : Ask). hasEntry q c (a .name)) (l .asks))
 
 -- nothing is skipped
 abbrev pub skipsNothing : Doing
-skipsNothing = queueing asItIs (λ q c l. l .asks)
+skipsNothing = queueing (λ q c l. l .asks)
 
 -- the last name of the list comes first
 abbrev pub lastFirst : Doing
-lastFirst = queueing asItIs (λ q c l. reverse (toQueue Have q c l))
+lastFirst = queueing (λ q c l. reverse (toQueue Have q c l))
 
--- what the caller has and asks for exclusive becomes so
-abbrev pub madeSo : Doing
-madeSo =
-    queueing (λ q c l. map (madeExclusive c (map nameOf (keep (λ (a : Ask). a .exclusive) (l .asks)))) q)
-    (toQueue Have)
+-- what is skipped and asked for exclusive becomes so
+abbrev pub skippedMadeExclusive : Doing
+skippedMadeExclusive =
+    leaving (λ s c l.
+    requeued s (withTail
+    (map (madeExclusive c (map nameOf (keep (λ (a : Ask). a .exclusive) (l .asks)))) (s .queue)) c
+    (toQueue Have (s .queue) c l)))
 
 -- the caller is not made to wait
 abbrev pub neverWaits : Doing

@@ -10,7 +10,7 @@ use Rattle.names.specs.Named.{shown}
 use Rattle.queue.specs.Queues.{isFine, isZero, allFine, restZero, packedEntries}
 use Rattle.queue.specs.Marking.{markedBy, withMark}
 use Rattle.rings.specs.Listings.{reportReply, reportWritten}
-use Rattle.flags.specs.Flagging.{flagsOf, someSet, allSet, allSetBut}
+use Rattle.flags.specs.Flagging.{flagsOf, someSet, allSet}
 use Rattle.asks.specs.Coding.{codesOf, nonzero}
 use Rattle.events.specs.Blocks.{tallyFrom}
 use Rattle.ecbwaits.specs.Waits.{waitedBy}
@@ -24,7 +24,7 @@ use Rattle.services.specs.Serve.{servedOf}
 
 unfoldable pub tables-open : Unit {0}
 unfolding rules-open onceFrom padded taskChecked ecbChecked addressChecked wakeAt wipeAt shown isFine isZero allFine
-    restZero packedEntries markedBy withMark reportReply reportWritten flagsOf someSet allSet allSetBut codesOf nonzero
+    restZero packedEntries markedBy withMark reportReply reportWritten flagsOf someSet allSet codesOf nonzero
     tallyFrom waitedBy isZeroArea restZeroAreas packedAreas placeFor wakeIf signalsOf waitedIn soundb answered
     answeredWith servedOf
 tables-open = tt

@@ -6,12 +6,13 @@ use mathlib.Core.List.{List, [], _∷_, _++_, map}
 use Prim.Native.Nat.{ℕ, _+_}
 use lib.Dec.{eqb, ltb}
 use lib.ListN.{length}
-use Rattle.lists.specs.Lists.{every, some, none, howMany}
+use Rattle.lists.specs.Lists.{every, some, howMany}
 use Rattle.lists.specs.Pick.{pick, pick-true}
 use Rattle.lists.specs.Keeping.{keep-any, keep-among, keep-none}
 use Rattle.lists.specs.Counting.{howMany-keep}
 use Rattle.kinds.specs.Limits.{mostEntries}
 use Rattle.kinds.specs.Tasks.{withCondition}
+use Rattle.kinds.specs.Replies.Besides.{NoValue}
 use Rattle.kinds.specs.declared.numbers.TaskNumber.{TaskNumber}
 use Rattle.kinds.specs.declared.requests.Ret.the-variants.{Have}
 use Rattle.kinds.specs.declared.tasks.Task.{Task}
@@ -38,7 +39,7 @@ use Rattle.laws.specs.InRange.{enq-names}
 use Rattle.laws.specs.Passed.{enq-passed}
 use Rattle.laws.specs.Queueing.{tail-waits, tail-none}
 use Rattle.laws.specs.ToQueue.{to-queue-distinct, zeroCoded, have-zero}
-use Rattle.laws.specs.KeptQueue.{good-names}
+use Rattle.laws.specs.KeptQueue.{good-names, coded-tables}
 use Rattle.laws.specs.SystemNames.{enqAsked}
 
 -- 105, under HAVE: some name is one that the caller has no entry for, and these names are more than the free entries
@@ -52,12 +53,12 @@ have-too-few q c l =
 -- WHAT A HAVE THAT GOES ON LEAVES of a step
 module _ (s : Step) (c : TaskNumber) where
   -- the caller has an entry for the name
-  abbrev had : Ask → Bool
+  abbrev pub had : Ask → Bool
   had a = hasEntry (s .queue) (c .0) (a .name)
 
-  -- these asks stand behind what was in the queue; else only the caller's wait changes, which begins unless each of
-  -- them is available
-  abbrev stepWith : List Ask → Step
+  -- these asks stand behind what was in the queue; apart from that only the caller's wait changes, which begins unless
+  -- each of them is available
+  abbrev pub stepWith : List Ask → Step
   stepWith asks =
       withQueue (withTasks s (pick (every (available (s .queue)) asks) (s .tasks)
       (withPlace (s .tasks) (c .0) (withCondition (place (s .tasks) (c .0)) ResourceWait))))
@@ -68,8 +69,9 @@ module _ (s : Step) (c : TaskNumber) where
     pub tables : v .outcome .tables ≡ stepWith (zeroCoded (s .queue) (c .0) Have l)
     -- 8 is written exactly where the caller had an entry before, and else 0
     pub codes : v .codes ≡ writtenOn (map (λ (a : Ask). pick (had a) 8 0) (l .asks)) area
-    -- 4 is answered exactly where it had one, and else 0
+    -- 4 is answered exactly where it had one, and else 0, with nothing besides
     pub number : v .outcome .number ≡ pick (some had (l .asks)) 4 0
+    pub besides : v .outcome .besides ≡ NoValue
 
   -- every code is 0 exactly where the caller has an entry for none
   zero-none : (k : List Ask) → allZero (map (enqCode Have (s .queue) (c .0)) k) ≡ not (some had k)
@@ -88,18 +90,18 @@ module _ (s : Step) (c : TaskNumber) where
   none-left l e =
       keep-among had (fresh (s .queue) (c .0)) (λ (a : Ask). false) (λ a k. ap not k) (l .asks) e ∙ keep-none (l .asks)
 
-coded-tables : (k : List ℕ) (t : Step) → coded k t .tables ≡ t
-unfolding coded pick
-coded-tables k t = one (allZero k)
-  where
-    one : (b : Bool) → pick b (done t) (four t) .tables ≡ t
-    one true = refl
-    one false = refl
-
 coded-number : (k : List ℕ) (t : Step) (b : Bool) → allZero k ≡ not b → coded k t .number ≡ pick b 4 0
 unfolding coded pick
 coded-number k t true e = rw e
 coded-number k t false e = rw e
+
+coded-besides : (k : List ℕ) (t : Step) → coded k t .besides ≡ NoValue
+unfolding coded pick
+coded-besides k t = one (allZero k)
+  where
+    one : (b : Bool) → pick b (done t) (four t) .besides ≡ NoValue
+    one true = refl
+    one false = refl
 
 module _ (s : Step) (h : Sound s) (c : TaskNumber) (o : gateOf s c ≡ Open) (l : Names) (es : Ecbs) (area : List ℕ)
     (g : enqVerdict (s .queue) c Have l (length area) ≡ Go) where
@@ -137,6 +139,9 @@ module _ (s : Step) (h : Sound s) (c : TaskNumber) (o : gateOf s c ≡ Open) (l 
         ap (λ (v : Served Step). v .outcome .number) served
         ∙ coded-number (enqCodes Have (s .queue) (c .0) l) (enqTail Have s (c .0) l) (some (had s c) (l .asks))
         (zero-none s c (l .asks));
+    besides =
+        ap (λ (v : Served Step). v .outcome .besides) served
+        ∙ coded-besides (enqCodes Have (s .queue) (c .0) l) (enqTail Have s (c .0) l);
   }
 
   -- where all are skipped the step stays, bit for bit

@@ -7,10 +7,10 @@ use native.Mathlib.Omega.{arith}
 use lib.Dec.{eqb, ltb}
 use lib.ListN.{length}
 use borrow.Author.Tests.{ltb-false}
-use Rattle.lists.specs.Lists.{keep, every, some, none, distinct}
-use Rattle.lists.specs.Bools.{both, join, or-left, or-right}
+use Rattle.lists.specs.Lists.{keep, every, none, distinct}
+use Rattle.lists.specs.Every.{every-gives, every-of, none-every}
 use Rattle.lists.specs.Pick.{pick}
-use Rattle.lists.specs.Keeping.{keep-same, keep-all, keep-none, every-keep, every-kept, length-keep}
+use Rattle.lists.specs.Keeping.{keep-same, keep-among, keep-all, keep-none, every-keep, length-keep}
 use Rattle.lists.specs.Keeping.{distinct-keep}
 use Rattle.lists.specs.Once.{distinct-map}
 use Rattle.kinds.specs.Limits.{mostEntries}
@@ -20,6 +20,7 @@ use Rattle.rules.specs.Names.{Ask, Names, nameOf, namesOf, sameName}
 use Rattle.rules.specs.Control.{Entry, hasEntry, available}
 use Rattle.rules.specs.Codes.{allZero}
 use Rattle.rules.specs.Enq.{enqCode, enqCodes, duplicated, fresh, toQueue, tooFewFree}
+use Rattle.laws.specs.Among.{all-kept}
 
 -- WHICH ASKS COME, by a test of each
 abbrev comes : Ret → List Entry → ℕ → Names → Ask → Bool
@@ -78,38 +79,24 @@ zero-have true = refl
 zero-have false = refl
 
 module _ (q : List Entry) (c : ℕ) where
-  none-fresh : (l : List Ask) → some (λ (a : Ask). hasEntry q c (a .name)) l ≡ false → every (fresh q c) l ≡ true
-  none-fresh [] h = refl
-  none-fresh (a ∷ l) h =
-      join (fresh q c a) _ (ap not (or-left (hasEntry q c (a .name)) _ h))
-      (none-fresh l (or-right (hasEntry q c (a .name)) _ h))
-
   use-fresh : (l : List Ask) → allZero (map (enqCode Use q c) l) ≡ true → every (fresh q c) l ≡ true
   unfolding enqCode
-  use-fresh [] h = refl
-  use-fresh (a ∷ l) h =
-      let b = both (eqb 0 (enqCode Use q c a)) _ h in
-      join (fresh q c a) _ (zero-eight (hasEntry q c (a .name)) (available q a) (b .0)) (use-fresh l (b .1))
-
-  kept-fresh : (l : List Ask) → every (fresh q c) (keep (fresh q c) l) ≡ true
-  kept-fresh l = every-kept (fresh q c) (λ a. true) (fresh q c) (λ a u v. u) l (all l)
-    where
-      all : (k : List Ask) → every (λ (a : Ask). true) k ≡ true
-      all [] = refl
-      all (a ∷ k) = all k
+  use-fresh l h =
+      every-gives (λ (a : Ask). eqb 0 (enqCode Use q c a)) (fresh q c)
+      (λ a e. zero-eight (hasEntry q c (a .name)) (available q a) e) l (sym (every-of (enqCode Use q c) (eqb 0) l) ∙ h)
 
   -- unless it is error 201
   pub to-queue-fresh : (ret : Ret) (l : Names) → duplicated ret q c l ≡ false
       → every (fresh q c) (toQueue ret q c l) ≡ true
   unfolding toQueue pick
-  to-queue-fresh None l d = none-fresh (l .asks) d
+  to-queue-fresh None l d = none-every (λ (a : Ask). hasEntry q c (a .name)) (l .asks) d
   to-queue-fresh Test l d = refl
   to-queue-fresh Use l d = one (allZero (enqCodes Use q c l)) refl
     where
       one : (b : Bool) → allZero (enqCodes Use q c l) ≡ b → every (fresh q c) (pick b (l .asks) []) ≡ true
       one true e = use-fresh (l .asks) e
       one false e = refl
-  to-queue-fresh Have l d = kept-fresh (l .asks)
+  to-queue-fresh Have l d = all-kept (fresh q c) (l .asks)
   to-queue-fresh Chng l d = refl
 
   -- THEIR CODES ARE 0, and no other's: under NONE and HAVE, and under USE where it queues
@@ -124,13 +111,10 @@ module _ (q : List Entry) (c : ℕ) where
 
   pub use-zero : (l : Names) → allZero (enqCodes Use q c l) ≡ true → toQueue Use q c l ≡ zeroCoded Use l
   unfolding toQueue pick
-  use-zero l h = rw h (sym (all (l .asks) h))
-    where
-      all : (k : List Ask) → allZero (map (enqCode Use q c) k) ≡ true
-          → keep (λ (a : Ask). eqb 0 (enqCode Use q c a)) k ≡ k
-      all [] e = refl
-      all (a ∷ k) e =
-          let b = both (eqb 0 (enqCode Use q c a)) _ e in rw (b .0) (ap {B = List Ask} (λ m. a ∷ m) (all k (b .1)))
+  use-zero l h =
+      let zero : (Ask → Bool) = λ a. eqb 0 (enqCode Use q c a) in
+      rw h (sym (keep-among zero zero (λ (a : Ask). true) (λ a e. e) (l .asks)
+      (sym (every-of (enqCode Use q c) (eqb 0) (l .asks)) ∙ h) ∙ keep-all (l .asks)))
 
   pub have-zero : (l : Names) → toQueue Have q c l ≡ zeroCoded Have l
   unfolding toQueue enqCode

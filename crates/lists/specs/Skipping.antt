@@ -1,10 +1,9 @@
--- What is left of a list where the elements with a flag are skipped: its length, by a test, along a loop, over map.
+-- What is left of a list where the elements with a flag are skipped: by a test, no two alike, along a loop, over map.
 use mathlib.Core.Path.{_≡_, refl, sym, ap, ap₂, _∙_}
 use mathlib.Core.Bool.{Bool, true, false, not, cond}
 use mathlib.Core.List.{List, [], _∷_, _++_, map}
-use Prim.Native.Nat.{ℕ, suc, _+_, _≤_, _<_}
+use Prim.Native.Nat.{ℕ, _+_, _≤_, _<_}
 use native.Mathlib.Numerals.{add-one}
-use native.Mathlib.Omega.{arith}
 use lib.ListN.{length, getD, drop, length-map, List·getD-map}
 use lib.Seq.{slice, slice-empty, drop-cons}
 use borrow.Author.Tests.{not-true}
@@ -13,16 +12,6 @@ use Rattle.lists.specs.Bools.{both, join, or-left, or-right}
 use Rattle.lists.specs.Every.{slice-next}
 
 module _ {A : Type 0} where
-  few : (b : Bool) (x : A) (l : List A) (n : ℕ) → length l ≤ n → length (cond b l (x ∷ l)) ≤ suc n
-  few true x l n h = omega arith
-  few false x l n h = omega arith
-
-  pub unskipped-length : (skip : List Bool) (l : List A) → length (unskipped skip l) ≤ length l
-  unskipped-length [] [] = omega arith
-  unskipped-length [] (x ∷ l) = omega arith
-  unskipped-length (b ∷ skip) [] = omega arith
-  unskipped-length (b ∷ skip) (x ∷ l) = few b x (unskipped skip l) (length l) (unskipped-length skip l)
-
   other-way : (b : Bool) (x : A) (l m : List A) → l ≡ m → cond b l (x ∷ l) ≡ cond (not b) (x ∷ m) m
   other-way true x l m e = e
   other-way false x l m e = ap {B = List A} (λ r. x ∷ r) e

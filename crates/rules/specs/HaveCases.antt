@@ -1,7 +1,6 @@
 -- HAVE GOES NAME BY NAME, document 02 §3, worked by hand: what the caller has an entry for is skipped and stays as it
 -- is, the rest is queued in list order, and 105 counts the rest alone.
 use Prim.Native.Nat.{ℕ}
-use mathlib.Core.Bool.{true}
 use mathlib.Core.List.{List, [], _∷_, _++_}
 use lib.IntN.{pos}
 use lib.ListN.{replicate}
@@ -10,12 +9,12 @@ use Rattle.kinds.specs.declared.tasks.Condition.the-variants.{Ready, ResourceWa
 use Rattle.kinds.specs.declared.requests.Ret.the-variants.{None, Use, Have, Chng}
 use Rattle.kinds.specs.declared.requests.DeqRet.the-variants.{None as DeqNone}
 use Rattle.rules.specs.Names.{Resource}
-use Rattle.rules.specs.Steps.{Step, withQueue, done}
-use Rattle.rules.specs.Fresh.{freshStep, freshOf}
+use Rattle.rules.specs.Steps.{done}
+use Rattle.rules.specs.Fresh.{freshOf}
 use Rattle.rules.specs.Table.{attach, enq, deq, counted, named, shr, exc, Line, Case}
 use Rattle.rules.specs.Table.{_⇒_∣_∣_∣_, _gives_, _refused_, Is, Lines, Unchanged, case}
 use Rattle.rules.specs.HandCases.{x}
-use Rattle.rules.specs.Examples.{y, z, fullQueue}
+use Rattle.rules.specs.Examples.{y, z, filled, fullQueue}
 use Rattle.rules.specs.StuckCases.{w, owner, waiter}
 use Rattle.rules.specs.SystemCases.{sysdsn}
 
@@ -75,12 +74,8 @@ wholeList =
 abbrev held : ℕ → Resource
 held k = named k (0 ∷ [])
 
--- 127 entries are queued
-abbrev oneFree : Step
-oneFree = withQueue (freshStep 200 150) (counted (λ k. record { task = 1; exclusive = true; name = held k }) 1 127)
-
--- two that are not held are one too many, whatever else is asked for; one has room, though the whole list would have
--- none. Then no entry is free: who skips all needs none.
+-- 127 entries are queued: two that are not held are one too many, whatever else is asked for; one has room, though the
+-- whole list would have none. Then no entry is free: who skips all needs none.
 abbrev nearlyFull : List Line
 nearlyFull =
     enq 1 Have 3 (exc (held 1) ∷ exc x ∷ exc y ∷ []) refused 105
@@ -109,6 +104,6 @@ haveCases =
     case (freshOf 200 150) someSkipped
     ∷ case (freshOf 200 150) inListOrder
     ∷ case (freshOf 200 150) wholeList
-    ∷ case (done oneFree) nearlyFull
+    ∷ case (done (filled 127)) nearlyFull
     ∷ case (done fullQueue) whereFull
     ∷ []

@@ -3,6 +3,7 @@
 use super::sights::Sight;
 use crate::control::entry_of;
 use crate::names::Asked;
+use crate::numbers::ENTRIES;
 use crate::request::{Answer, Request};
 use crate::tables::Step;
 
@@ -34,6 +35,16 @@ impl<'a> Made<'a> {
     /// Had the caller an entry for the name?
     pub fn has(&self, asked: &Asked) -> bool {
         entry_of(self.before.used_entries(), self.caller(), asked).is_some()
+    }
+
+    /// How many names of the list the caller had no entry for.
+    pub fn fresh(&self) -> usize {
+        self.names.iter().filter(|asked| !self.has(asked)).count()
+    }
+
+    /// How many entries were free.
+    pub fn free(&self) -> usize {
+        ENTRIES - self.before.entry_count
     }
 
     pub fn caller_has_some(&self) -> bool {

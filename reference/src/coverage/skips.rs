@@ -5,7 +5,7 @@ use super::made::{Made, Test};
 use super::sights::Sight;
 use crate::control::has_control;
 use crate::names::{stands_twice, Asked};
-use crate::numbers::{ENTRIES, LIST};
+use crate::numbers::LIST;
 use crate::rings::Waits;
 use crate::tables::Entry;
 
@@ -101,18 +101,8 @@ impl<'a> Made<'a> {
         self.has(&self.names[place])
     }
 
-    /// How many names of the list are fresh.
-    fn fresh(&self) -> usize {
-        self.names.iter().filter(|asked| !self.has(asked)).count()
-    }
-
     fn is_mixed(&self) -> bool {
         0 < self.fresh() && self.fresh() < self.names.len()
-    }
-
-    /// How many entries were free.
-    fn free(&self) -> usize {
-        ENTRIES - self.before.entry_count
     }
 
     /// A mixed list was answered 4, and each fresh name has a new entry.

@@ -3,7 +3,7 @@
 use super::made::{Made, Test};
 use super::sights::Sight;
 use crate::names::{stands_twice, Asked, Name, SYSTEM};
-use crate::numbers::{ENTRIES, LIST, MINOR};
+use crate::numbers::{LIST, MINOR};
 use crate::request::{Request, Ret};
 
 /// Of ENQ, in each RET kind.
@@ -170,13 +170,17 @@ impl<'a> Made<'a> {
         self.answer.number < 100 && self.names.iter().any(|asked| test(&asked.name))
     }
 
-    /// It might queue, and there is no room for all names.
+    /// It might queue, and there is no room: under HAVE for the names that it would not skip,
+    /// else for all.
     fn entries_are_too_few(&self) -> bool {
-        let queues = match self.request {
-            Request::Enq { ret, .. } => ret != Ret::Test && ret != Ret::Chng,
-            _ => false,
+        let queued = match self.request {
+            Request::Enq { ret: Ret::Have, .. } => self.fresh(),
+            Request::Enq { ret: Ret::None, .. } | Request::Enq { ret: Ret::Use, .. } => {
+                self.names.len()
+            }
+            _ => 0,
         };
-        queues && self.names.len() > ENTRIES - self.before.entry_count
+        queued > self.free()
     }
 
     /// DEQ HAVE: code 8 for a system name.

@@ -19,11 +19,11 @@ pub fn enq(step: &mut Step, caller: u32, ret: Ret, names: &[Asked], codes: &mut 
         *code = code_of(step.used_entries(), caller, ret, asked);
     }
     let found = &room[..names.len()];
-    if ret == Ret::Chng && all_zero(found) {
-        make_exclusive(step, caller, names);
-    }
     if !queue(step, caller, &to_be_queued(ret, names, found)) {
         return Answer::refused(105);
+    }
+    if ret == Ret::Chng && all_zero(found) {
+        make_exclusive(step, caller, names);
     }
     answer_with_codes(found, codes)
 }
@@ -33,23 +33,24 @@ fn unconditional(step: &mut Step, caller: u32, names: &[Asked]) -> Answer {
     if names.iter().any(|asked| entry_of(step.used_entries(), caller, asked).is_some()) {
         return program_error(step, caller, 201);
     }
-    if !queue(step, caller, names) {
+    if !queue(step, caller, &to_be_queued(Ret::None, names, &[])) {
         return Answer::refused(105);
     }
     Answer::done(0)
 }
 
-/// What RET kinds with codes queue.  USE: "queue all, only if every code is 0".  HAVE, by
-/// document 02, section 3: "names with code 8 skipped and the rest queued".  TEST and CHNG
-/// queue nothing.
+/// What is to be queued.  NONE, which gives no codes: "queue all".  USE: "queue all, only if
+/// every code is 0".  HAVE, by document 02, section 3: "names with code 8 skipped and the rest
+/// queued".  TEST and CHNG queue nothing.
 fn to_be_queued(ret: Ret, names: &[Asked], found: &[u8]) -> Vec<Asked> {
     match ret {
+        Ret::None => names.to_vec(),
         Ret::Use if all_zero(found) => names.to_vec(),
         Ret::Have => {
             let rest = names.iter().zip(found).filter(|(_, code)| **code != 8);
             rest.map(|(asked, _)| *asked).collect()
         }
-        Ret::Use | Ret::Test | Ret::Chng | Ret::None => Vec::new(),
+        Ret::Use | Ret::Test | Ret::Chng => Vec::new(),
     }
 }
 

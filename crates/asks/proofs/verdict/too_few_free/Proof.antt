@@ -26,21 +26,21 @@ returns c =
     let s = c .before .before .before in
     room-for-all (s .args .ret) (s .args .q) (s .args .caller .0) (s .args .l) (within s) (omega arith)
 
-to-queue-requires : tie.Need-to-queue-requires
-to-queue-requires c κs = search needs
+many-to-queue-requires : tie.Need-many-to-queue-requires
+many-to-queue-requires c κs = search needs
 
 add-result : tie.Need-add-result
 add-result c =
     let s = c .before .before .before .before .before in
-    let n = c .before .to-queue in
+    let n = c .before .many-to-queue in
     let few = queued-few (s .args .ret) (s .args .q) (s .args .caller .0) (s .args .l) (within s) _ (n .ensures) in
     omega arith
 
 returns-2 : tie.Need-returns-2
 returns-2 c =
     let s = c .before .before .before .before .before in
-    let n = c .before .to-queue in
+    let n = c .before .many-to-queue in
     few-free (s .args .ret) (s .args .q) (s .args .caller .0) (s .args .l) (within s) (n .result) (n .ensures)
 
 pub too-few-free-spec : {M : Type 1} → statement M
-too-few-free-spec = tie.close (tie.spec cast-n add-if1 returns to-queue-requires add-result returns-2)
+too-few-free-spec = tie.close (tie.spec cast-n add-if1 returns many-to-queue-requires add-result returns-2)

@@ -9,7 +9,8 @@ use Rattle.kinds.specs.Limits.{longestList}
 use Rattle.names.proofs.Listed.{good-count}
 use Rattle.laws.specs.InRange.{enq-names}
 use Rattle.laws.specs.Passed.{enq-passed}
-use Rattle.claims.proofs.Coding.{zero-told, left-told}
+use Rattle.asks.proofs.Coded.{zero-told}
+use Rattle.claims.proofs.Coding.{left-told}
 use Rattle.claims.proofs.enq.goes_on.Statement.{statement}
 use Rattle.claims.proofs.enq.goes_on.Tie as tie
 
@@ -42,7 +43,7 @@ change-requires c κs =
       record {
         good = enq-names _ _ (g .good);
         room = g .room;
-        all = zero-told (s .args .ret) _ _ (s .args .names) (within s) _ _ k (c .before .all-zero .ensures);
+        all = zero-told _ _ (s .args .names) (within s) (s .args .ret) _ _ k (c .before .all-zero .ensures);
         left = left-told (s .args .ret) _ _ (s .args .names) _ _ k (c .skipped .ensures);
       },
     )
@@ -59,7 +60,7 @@ returns c =
     let w = z .before .before .before in
     let s = w .before .before .before in
     let k = w .write-codes .ensures in
-    let e = zero-told (s .args .ret) _ _ (s .args .names) (within s) _ _ (k .0) (z .all-zero .ensures) in
+    let e = zero-told _ _ (s .args .names) (within s) (s .args .ret) _ _ (k .0) (z .all-zero .ensures) in
     (rw (c .reply-to .ensures, c .before .change .ensures, e), k .1)
 
 pub goes-on-spec : {M : Type 1} → statement M

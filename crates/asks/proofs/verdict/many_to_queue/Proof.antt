@@ -9,8 +9,8 @@ use Rattle.kinds.specs.Limits.{longestList}
 use Rattle.rules.specs.Enq.{toQueue}
 use Rattle.queue.specs.Queues.{entriesIn}
 use Rattle.asks.proofs.Judged.{all-counted, use-counted, use-none, zeros-counted}
-use Rattle.asks.proofs.verdict.to_queue.Statement.{statement}
-use Rattle.asks.proofs.verdict.to_queue.Tie as tie
+use Rattle.asks.proofs.verdict.many_to_queue.Statement.{statement}
+use Rattle.asks.proofs.verdict.many_to_queue.Tie as tie
 
 within : (c : tie.Start) → c .args .l .count ≤ length (c .args .l .names)
 within c = let h : length (c .args .l .names) ≡ longestList = search (needs, mapped-length) in omega arith
@@ -85,7 +85,7 @@ returns-6 : tie.Need-returns-6
 unfolding toQueue
 returns-6 c = rw (c .enum-told5 .given .1)
 
-pub to-queue-spec : {M : Type 1} → statement M
-to-queue-spec =
+pub many-to-queue-spec : {M : Type 1} → statement M
+many-to-queue-spec =
     tie.close (tie.spec cast-n enum-told enum-told-2 enum-told-3 enq-codes-requires all-zero-requires returns
     enum-told-4 enq-codes-requires-2 zeros-requires enum-told-5 returns-2 returns-3 returns-4 returns-5 returns-6)

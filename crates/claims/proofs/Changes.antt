@@ -4,9 +4,10 @@ use mathlib.Core.Bool.{Bool, true}
 use mathlib.Core.List.{List}
 use Prim.Native.Nat.{ℕ, _+_, _≤_}
 use native.Mathlib.Omega.{arith}
-use lib.ListN.{length, length-map}
+use lib.ListN.{length}
 use Rattle.lists.specs.Pick.{pick}
 use Rattle.lists.specs.Lists.{every, distinct, unskipped}
+use Rattle.lists.specs.Packed.{stored-count}
 use Rattle.lists.specs.Skipping.{unskipped-map, distinct-unskipped}
 use Rattle.kinds.specs.Limits.{lowestTask, highestTask, mostEntries}
 use Rattle.kinds.specs.Tasks.{withCondition}
@@ -26,7 +27,8 @@ use Rattle.laws.specs.Admitted.{open-ready, open-used}
 use Rattle.laws.specs.KeptQueue.{good-names, zero-sole}
 use Rattle.laws.specs.Queueing.{tail-waits}
 use Rattle.laws.specs.ToQueue.{to-queue-room, none-zero, use-zero, have-zero}
-use Rattle.queue.specs.Queues.{slotOf, entriesIn, PackedEntries}
+use Rattle.queue.specs.Queues.{entriesIn, PackedEntries}
+use Rattle.queue.proofs.Views.{table}
 use Rattle.queue.specs.declared.Queue.{Queue}
 use Rattle.family.specs.declared.Family.{Family}
 use Rattle.flags.specs.declared.Flags.{Flags}
@@ -34,7 +36,7 @@ use Rattle.claims.specs.Claiming.{Admits, CodesTold, requeuedTo}
 
 -- a queue has as many entries as it says, and so no more than there is room for
 pub counted : (q : Queue) → PackedEntries q → q .count ≡ length (entriesIn q)
-counted q p = ap (λ (x : Queue). x .count) (p .form) ∙ length-map (entriesIn q) slotOf
+counted q p = stored-count table (entriesIn q) q (p .form)
 
 pub entries-fit : {q : Queue} → PackedEntries q → length (entriesIn q) ≤ mostEntries
 entries-fit {q} p = omega (arith, counted q p, p .room)

@@ -225,6 +225,10 @@ mixed-packed = record { form = refl; room = omega arith }
 abbrev asksMixed : Given Ret
 asksMixed = on mixed 1 Have (namesOf (exc x ∷ exc y ∷ shr z ∷ [])) (238 ∷ 238 ∷ 238 ∷ [])
 
+mixed-asked : claimed.Pre ([], tt) asksMixed
+unfolding tables-open
+mixed-asked = (mixed-packed, admits mixed (task 1) refl refl refl)
+
 -- its entry for z is there
 abbrev hasZ : Claimed → Bool
 hasZ r = hasEntry (entriesIn (r .tables .queue)) 1 z
@@ -237,50 +241,44 @@ pub claimed-have-all-or-nothing : RuledOutWith (λ k. fits-Given fits-Ret) claim
     (λ k a. having allOrNothing a)
 unfolding tables-open
 claimed-have-all-or-nothing =
-    wrong-result ([], tt) asksMixed refl (mixed-packed, admits mixed (task 1) refl refl refl) (λ r. not (hasZ r)) refl
-    refl
+    wrong-result ([], tt) asksMixed refl mixed-asked (λ r. not (hasZ r)) refl refl
 
 pub claimed-have-queues-the-skipped : RuledOutWith (λ k. fits-Given fits-Ret) claimed.Pre claimed.Post
     (λ k a. having skippedQueued a)
 unfolding tables-open
 claimed-have-queues-the-skipped =
-    wrong-result ([], tt) asksMixed refl (mixed-packed, admits mixed (task 1) refl refl refl) (λ r. not (hasZ r)) refl
-    refl
+    wrong-result ([], tt) asksMixed refl mixed-asked (λ r. not (hasZ r)) refl refl
 
 pub claimed-have-skips-nothing : RuledOutWith (λ k. fits-Given fits-Ret) claimed.Pre claimed.Post
     (λ k a. having skipsNothing a)
 unfolding tables-open
 claimed-have-skips-nothing =
-    wrong-result ([], tt) asksMixed refl (mixed-packed, admits mixed (task 1) refl refl refl)
-    (λ r. eqb (r .tables .queue .count) 5) refl refl
+    wrong-result ([], tt) asksMixed refl mixed-asked (λ r. eqb (r .tables .queue .count) 5) refl refl
 
 pub claimed-have-last-first : RuledOutWith (λ k. fits-Given fits-Ret) claimed.Pre claimed.Post
     (λ k a. having lastFirst a)
 unfolding tables-open
 claimed-have-last-first =
-    wrong-result ([], tt) asksMixed refl (mixed-packed, admits mixed (task 1) refl refl refl)
-    (λ r. sameName (entryAt 2 r .name) z) refl refl
+    wrong-result ([], tt) asksMixed refl mixed-asked (λ r. sameName (entryAt 2 r .name) z) refl refl
 
 pub claimed-have-makes-exclusive : RuledOutWith (λ k. fits-Given fits-Ret) claimed.Pre claimed.Post
     (λ k a. having skippedMadeExclusive a)
 unfolding tables-open
 claimed-have-makes-exclusive =
-    wrong-result ([], tt) asksMixed refl (mixed-packed, admits mixed (task 1) refl refl refl)
-    (λ r. entryAt 0 r .exclusive) refl refl
+    wrong-result ([], tt) asksMixed refl mixed-asked (λ r. entryAt 0 r .exclusive) refl refl
 
 pub claimed-have-never-waits : RuledOutWith (λ k. fits-Given fits-Ret) claimed.Pre claimed.Post
     (λ k a. having neverWaits a)
 unfolding tables-open
 claimed-have-never-waits =
-    wrong-result ([], tt) asksMixed refl (mixed-packed, admits mixed (task 1) refl refl refl)
+    wrong-result ([], tt) asksMixed refl mixed-asked
     (λ r. isReady (conditionOf (r .tables .family .places) 1)) refl refl
 
 pub claimed-have-answers-0 : RuledOutWith (λ k. fits-Given fits-Ret) claimed.Pre claimed.Post
     (λ k a. having answersZero a)
 unfolding tables-open
 claimed-have-answers-0 =
-    wrong-result ([], tt) asksMixed refl (mixed-packed, admits mixed (task 1) refl refl refl)
-    (λ r. eqb (numberOf (r .reply)) 0) refl refl
+    wrong-result ([], tt) asksMixed refl mixed-asked (λ r. eqb (numberOf (r .reply)) 0) refl refl
 
 -- NONE writes codes: 2 asks for y, with an area of one byte
 pub claimed-codes-under-none : RuledOutWith (λ k. fits-Given fits-Ret) claimed.Pre claimed.Post

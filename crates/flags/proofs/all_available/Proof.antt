@@ -1,14 +1,16 @@
 -- All names pass, or are skipped, just where those from i on do, none of j slots bars name i while free (invariants);
 -- the rest falls (measures).
+use mathlib.Core.Bool.{Bool, _||_}
 use mathlib.Core.List.{map}
 use Prim.Native.Nat.{_≤_, _-_}
 use mathlib.Core.Path.{_≡_}
 use native.Mathlib.Omega.{arith}
 use borrow.Author.Needs.{needs}
-use lib.ListN.{length, length-map}
+use lib.ListN.{length, getD, length-map}
 use Rattle.lists.specs.Arrays.{within, mapped-length}
 use Rattle.lists.specs.Loops.{AllBut, but-start, but-stops, but-goes-on, but-over}
 use Rattle.kinds.specs.Limits.{longestList}
+use Rattle.rules.specs.Names.{Ask}
 use Rattle.rules.specs.Control.{available}
 use Rattle.names.specs.Named.{askOf}
 use Rattle.queue.specs.Queues.{entryOf, entriesIn}
@@ -73,16 +75,27 @@ loop2-again c =
     let e = seek-step v (c .before .before .loop2-test .taken) (omega arith) _ (c .bars .result) (c .bars .ensures) in
     (e, omega arith)
 
+-- where the search has ended, it says whether name i is skipped or available
+passes : (b : tie.After-loop2 Inv-loop2 μ-loop2 Inv-loop μ-loop)
+    → let o = b .before .before .before .before .before .before in
+    let a = o .before .args in
+    let i = o .loop .i in
+    (s : Bool) × ((d : Ask) × (b .before .loop2 .free ≡
+    (getD (a .t3 .of) i s || available (entriesIn (a .t1)) (getD (map askOf (a .t2 .names)) i d))))
+passes b =
+    let o = b .before .before .before .before .before .before in
+    let a = o .before .args in
+    let m = b .before .loop2 in
+    let w = seek-end (a .t1 .slots) _ (a .t1 .count) (m .j) _ (m .free) (m .inv .1) (b .loop2-test .left) (m .inv .0) in
+    (_, (_, name-passes (entriesIn (a .t1)) (a .t3 .of) (a .t2 .names) (o .loop .i) _ _ (m .free) w))
+
 returns : tie.Need-returns Inv-loop2 μ-loop2 Inv-loop μ-loop
 returns c =
     let o = c .before .before .before .before .before .before .before in
-    let a = o .before .args in
-    let m = c .before .before .loop2 in
-    let l = c .before .loop2-test .left in
-    let w = seek-end (a .t1 .slots) _ (a .t1 .count) (m .j) _ (m .free) (m .inv .1) l (m .inv .0) in
-    let t = name-passes (entriesIn (a .t1)) (a .t3 .of) (a .t2 .names) (o .loop .i) _ _ (m .free) w in
-    but-stops (o .loop .inv .0) (omega arith) (omega (arith, length-map (a .t2 .names) askOf)) (omega arith) _ _ t
-    (c .if1 .taken)
+    let p = passes (c .before) in
+    let k = length-map (o .before .args .t2 .names) askOf in
+    let v = o .loop .inv .0 in
+    but-stops v (omega arith) (omega (arith, k)) (omega arith) (p .1 .0) (p .0) (p .1 .1) (c .if1 .taken)
 
 add-i : tie.Need-add-i Inv-loop2 μ-loop2 Inv-loop μ-loop
 add-i c = omega arith
@@ -93,13 +106,10 @@ loop-less c = omega arith
 loop-again : tie.Need-loop-again Inv-loop2 μ-loop2 Inv-loop μ-loop
 loop-again c =
     let o = c .before .before .before .before .before .before .before in
-    let a = o .before .args in
-    let m = c .before .before .loop2 in
-    let l = c .before .loop2-test .left in
-    let w = seek-end (a .t1 .slots) _ (a .t1 .count) (m .j) _ (m .free) (m .inv .1) l (m .inv .0) in
-    let t = name-passes (entriesIn (a .t1)) (a .t3 .of) (a .t2 .names) (o .loop .i) _ _ (m .free) w in
-    let k = length-map (a .t2 .names) askOf in
-    let e = but-goes-on (o .loop .inv .0) (omega arith) (omega (arith, k)) (omega arith) _ _ t (c .if1 .left) in
+    let p = passes (c .before) in
+    let k = length-map (o .before .args .t2 .names) askOf in
+    let v = o .loop .inv .0 in
+    let e = but-goes-on v (omega arith) (omega (arith, k)) (omega arith) (p .1 .0) (p .0) (p .1 .1) (c .if1 .left) in
     (e, omega arith)
 
 returns-2 : tie.Need-returns-2 Inv-loop2 μ-loop2 Inv-loop μ-loop

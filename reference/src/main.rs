@@ -1,7 +1,9 @@
-//! A plain reference implementation of the services of document 01, and of sections 1 and 2 of
-//! document 02: the reports, the system's names.
+//! A plain reference implementation of the services of document 01, and of sections 1 to 3 of
+//! document 02: the reports, the system's names, HAVE name by name.  Section 4 changes no answer:
+//! GETMAIN here tries each multiple of 8 in turn, so that a shorter search can be held to it.
 //!
 //!     reference                            answer the job script on standard input
+//!     reference quick                      the same with a short walk in GETMAIN, to be timed
 //!     reference generate SEED KIND COUNT   write a script of about COUNT requests and reports
 //!     reference kinds                      write the kinds of scripts
 //!     reference coverage                   count what the script on standard input reaches
@@ -17,6 +19,7 @@ mod names;
 mod numbers;
 mod poke;
 mod printer;
+mod quick;
 mod random;
 mod reports;
 mod request;
@@ -34,13 +37,17 @@ use std::env;
 use std::io::{self, BufRead, Write};
 use std::process;
 
+use self::runner::Runner;
+
 fn main() {
     let words: Vec<String> = env::args().skip(1).collect();
     let words: Vec<&str> = words.iter().map(|word| word.as_str()).collect();
     match act(&words) {
         Ok(true) => {}
         Ok(false) => {
-            eprintln!("usage: reference [generate SEED KIND COUNT | kinds | coverage | origin K]");
+            eprintln!(
+                "usage: reference [quick | generate SEED KIND COUNT | kinds | coverage | origin K]"
+            );
             process::exit(2);
         }
         Err(error) => {
@@ -54,7 +61,8 @@ fn act(words: &[&str]) -> io::Result<bool> {
     let mut input = io::BufReader::with_capacity(1 << 16, io::stdin());
     let mut output = io::BufWriter::with_capacity(1 << 16, io::stdout());
     match *words {
-        [] => runner::run(&mut input, &mut output)?,
+        [] => runner::run(Runner::new(), &mut input, &mut output)?,
+        ["quick"] => runner::run(Runner::quick(), &mut input, &mut output)?,
         ["kinds"] => generate::KINDS.iter().try_for_each(|kind| writeln!(output, "{}", kind))?,
         ["coverage"] => coverage::report(&mut input, &mut output)?,
         ["generate", seed, kind, count] => match (seed.parse(), count.parse()) {
@@ -73,7 +81,7 @@ fn act(words: &[&str]) -> io::Result<bool> {
 
 /// The number and the text of the line that makes the answers' line `place`.
 fn origin<R: BufRead, W: Write>(input: &mut R, output: &mut W, place: usize) -> io::Result<()> {
-    let mut runner = runner::Runner::new();
+    let mut runner = Runner::new();
     let mut lines = 0;
     runner::each_line(input, |line| {
         let outcome = runner.take(line);

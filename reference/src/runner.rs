@@ -4,11 +4,13 @@ use std::io::{BufRead, Result, Write};
 
 use crate::poke;
 use crate::printer::{self, FILL};
+use crate::quick;
 use crate::reports::queues::{self, Queued};
 use crate::reports::stuck::{self, Stuck};
 use crate::reports::{report, Report};
 use crate::request::{Answer, Lists, Request};
 use crate::script::{Line, Reader, MOST_CODES};
+use crate::services::getmain::{self, Search};
 use crate::services::serve;
 use crate::tables::Step;
 
@@ -29,6 +31,7 @@ pub struct Runner {
     pub step: Step,
     pub line: u64,
     reader: Reader,
+    search: Search,
     codes: [u8; MOST_CODES as usize],
     codes_length: usize,
     /// The list areas, as long as the last line lent them.
@@ -37,12 +40,23 @@ pub struct Runner {
 }
 
 impl Runner {
-    /// "Before the first `fresh` the tables are those of a step over with code 0."
+    /// One whose GETMAIN tries each multiple of 8, by the words of document 01.
     pub fn new() -> Runner {
+        Runner::with(getmain::lowest_fit)
+    }
+
+    /// One whose GETMAIN takes the short walk; only to be timed.
+    pub fn quick() -> Runner {
+        Runner::with(quick::lowest_fit)
+    }
+
+    /// "Before the first `fresh` the tables are those of a step over with code 0."
+    fn with(search: Search) -> Runner {
         Runner {
             step: Step::over(0),
             line: 0,
             reader: Reader::new(),
+            search,
             codes: [FILL; MOST_CODES as usize],
             codes_length: 0,
             stuck: Vec::new(),
@@ -76,7 +90,8 @@ impl Runner {
                 for byte in area.iter_mut() {
                     *byte = FILL;
                 }
-                let answer = serve(&mut self.step, &request, self.reader.lists(), area);
+                let answer =
+                    serve(&mut self.step, &request, self.reader.lists(), area, self.search);
                 Outcome::Served(request, answer)
             }
             Line::Report { report, room } => Outcome::Reported(report, self.report(report, room)),
@@ -155,8 +170,7 @@ pub fn each_line<R: BufRead, F: FnMut(&[u8]) -> Result<()>>(
 }
 
 /// Answer a whole script.
-pub fn run<R: BufRead, W: Write>(input: &mut R, output: &mut W) -> Result<()> {
-    let mut runner = Runner::new();
+pub fn run<R: BufRead, W: Write>(mut runner: Runner, input: &mut R, output: &mut W) -> Result<()> {
     let mut out = Vec::new();
     each_line(input, |line| {
         let outcome = runner.take(line);

@@ -1,5 +1,7 @@
 //! The tables of one step, with every field raw, as a dump shows it.
 
+use std::ops::RangeInclusive;
+
 use crate::names::Name;
 use crate::numbers::{is_task, AREAS, ECBS, ENTRIES, PAGE, PRIORITY, TASKS};
 
@@ -79,6 +81,11 @@ impl Area {
     /// The last page touched by an area, whose length is not 0.
     pub fn last_page(&self) -> u64 {
         (self.end() - 1) / PAGE as u64
+    }
+
+    /// The pages touched by an area, whose length is not 0.
+    pub fn pages(&self) -> RangeInclusive<u64> {
+        self.first_page()..=self.last_page()
     }
 
     pub fn same_owner_and_subpool(&self, other: &Area) -> bool {

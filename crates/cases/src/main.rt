@@ -1,7 +1,8 @@
-// The cases that document 01 has checked by hand, run: every request goes through `serve`, and a line tells its answer.
-// Besides, the parts of the tables are told that a case speaks of.
+// The cases that document 01 has checked by hand, and those of document 02 §4, run: every request goes through `serve`,
+// and a line tells its answer. Besides, the parts of the tables are told that a case speaks of.
 mod ask;
 mod limits;
+mod pages;
 mod priorities;
 mod queueing;
 mod show;
@@ -21,4 +22,6 @@ fn main() {
     waiting::case_10();
     let named = limits::case_11_names();
     limits::case_11_entries(named);
+    pages::every_page();
+    pages::without_gaps();
 }

@@ -5,7 +5,13 @@ use kinds::Address;
 use kinds::Request;
 use services::Tables;
 
-fn getmain(text: &[u8], t: Tables, length: u32, subpool: u8, conditional: bool) -> Tables {
+pub(crate) fn getmain(
+    text: &[u8],
+    t: Tables,
+    length: u32,
+    subpool: u8,
+    conditional: bool,
+) -> Tables {
     ask::plainly(
         text,
         t,
@@ -18,7 +24,13 @@ fn getmain(text: &[u8], t: Tables, length: u32, subpool: u8, conditional: bool) 
     )
 }
 
-fn freemain(text: &[u8], t: Tables, address: Address, length: u32, subpool: u8) -> Tables {
+pub(crate) fn freemain(
+    text: &[u8],
+    t: Tables,
+    address: Address,
+    length: u32,
+    subpool: u8,
+) -> Tables {
     ask::plainly(
         text,
         t,

@@ -1,14 +1,13 @@
 -- The flags of the names beside a request, and the searches that find them.
 use mathlib.Core.Path.{_≡_, refl, sym, ap, _∙_}
-use mathlib.Core.Bool.{Bool, true, false, not, _&&_, _||_, and-true, false≢true}
+use mathlib.Core.Bool.{Bool, true, false, not, _&&_, _||_, false≢true}
 use mathlib.Core.List.{List, map}
 use Prim.Native.Nat.{ℕ, _+_, _≤_, _<_}
-use native.Mathlib.Omega.{arith}
 use lib.Dec.{ltb}
 use lib.ListN.{length, getD, take, length-map, List·getD-map}
 use lib.Seq.{slice, slice-empty, length-take-le}
-use borrow.Author.Tests.{ltb-true, ltb-false}
-use Rattle.lists.specs.Bools.{and-left, and-right}
+use Rattle.lists.specs.Loops.{goes-on, run-out}
+use Rattle.lists.specs.Bools.{and-right}
 use Rattle.lists.specs.Lists.{every, some}
 use Rattle.lists.specs.Tables.{padded, padded-take}
 use Rattle.lists.specs.Every.{slice-view, every-of, some-of}
@@ -66,15 +65,6 @@ name-passes q skip ws i s d free h =
         → free ≡ (b || available q a)
     one true e = sym e
     one false e = sym e ∙ sym (tail-available q 0 a)
-
--- a loop to n that goes on is below n
-pub goes-on : (j n : ℕ) (b : Bool) → (ltb j n && b) ≡ true → j < n
-goes-on j n b h = ltb-true j n (and-left (ltb j n) b h)
-
--- and one that has ended, though it might go on, is at n
-pub run-out : (j n : ℕ) (b : Bool) → j ≤ n → b ≡ true → (ltb j n && b) ≡ false → j ≡ n
-run-out j n true h g k = let m : n ≤ j = ltb-false j n (sym (and-true (ltb j n)) ∙ k) in omega arith
-run-out j n false h g k = absurd (false≢true g)
 
 -- the search, among the first n slots, for one that passes a test: from place j on, while none was found
 unfoldable pub Sought : (Entry → Bool) → List Slot → ℕ → ℕ → Bool → Type 0

@@ -6,6 +6,7 @@ use Prim.Native.Nat.{ℕ, _+_, _≤_}
 use lib.Dec.{ltb}
 use lib.ListN.{length, getD, take}
 use lib.Seq.{slice, slice-empty}
+use Rattle.lists.specs.Loops.{goes-on, run-out}
 use Rattle.lists.specs.Lists.{every}
 use Rattle.lists.specs.Bools.{and-right}
 use Rattle.lists.specs.Pick.{pick}
@@ -17,7 +18,6 @@ use Rattle.rules.specs.DemandThree.{sharedRun, leadingRun}
 use Rattle.laws.specs.Owners.{owners-leading}
 use Rattle.queue.specs.Queues.{entryOf}
 use Rattle.flags.specs.Leading.{leadNext}
-use Rattle.flags.proofs.Flagged.{goes-on, run-out}
 use Rattle.flags.specs.declared.lead.Lead.{Lead}
 
 -- what the rest of a name's queue adds to the run

@@ -30,6 +30,8 @@ use Rattle.rules.specs.Alike.{kindOf}
 use Rattle.storage.specs.Stored.{areasIn, storedAreas, PackedAreas}
 use Rattle.storage.specs.Kept.{stored-packed}
 use Rattle.storage.specs.declared.Storage.{Storage}
+use Rattle.rooms.specs.Tries.{mostTries}
+use Rattle.rooms.specs.Jumping.{Jump, jumping, past}
 use Rattle.rooms.specs.Found.{placeFor, replyAt, putAt, gotBy, freedBy}
 use Rattle.rooms.specs.declared.Stored.{Stored}
 use Rattle.rooms.proofs.room.lowest.Reads as lowest-place
@@ -40,19 +42,24 @@ use Rattle.impostors.specs.Fitting.{_⊗_, fits-Address, fits-Area, fits
 use Rattle.impostors.specs.Fitting.{fits-end, fits-u32, fits-u8}
 use Rattle.impostors.specs.Opened.{tables-open}
 use Rattle.impostors.specs.Wrong.{RuledOut, wrong-at}
+use Rattle.impostors.specs.Searches.{toPages, toEnds, toStart, pageTooFar, stopsAtOthers}
 use Rattle.impostors.specs.Samples.{task}
 use Rattle.impostors.specs.Answers.{retold}
 use Rattle.impostors.specs.Parts.{address, goes}
 
--- SAMPLES: 8 bytes of task 1 in subpool 5, and 104 in subpool 10, at 0; 128 areas of 8 bytes in subpool 10, from 0 on
+-- SAMPLES: 8 bytes of task 1 in subpool 5, and 104 in subpool 10, at 0; so many areas of 8 bytes in subpool 10, from 0
+-- on; 128 of them
 abbrev one : List Area
 one = area 0 8 5 1 ∷ []
 
 abbrev held : List Area
 held = area 0 104 10 1 ∷ []
 
+abbrev packed : ℕ → List Area
+packed n = counted (λ i. area (doubleword * i) doubleword 10 1) 0 n
+
 abbrev full : List Area
-full = counted (λ n. area (doubleword * n) doubleword 10 1) 0 mostAreas
+full = packed mostAreas
 
 few : PackedAreas (storedAreas held)
 few = stored-packed held _ refl (omega arith)
@@ -62,23 +69,71 @@ abbrev at : ℕ → MaybeAddress → Bool
 at n (At a) = eqb (a .0) n
 at n Nowhere = false
 
--- THE SEARCH
+-- THE SEARCH THAT JUMPS, as the code's but for one thing: where a try that fails goes on, or how many tries there are
+abbrev Searched : Type 0
+Searched = Storage × (Area × Unit {0})
 
--- the first of so many addresses that passes, from s on by so much
-abbrev firstFrom : (ℕ → Bool) → ℕ → ℕ → ℕ → MaybeAddress
-firstFrom p by zero s = Nowhere
-firstFrom p by (suc tries) s = cond (p s) (At (address s)) (firstFrom p by tries (s + by))
+abbrev search : Jump → ℕ → Searched → MaybeAddress
+search next tries a = jumping next tries (areasIn (a .0)) (a .1 .0) 0
 
--- the first doubleword of the region at which an area passes
-abbrev firstAt : (Area → Bool) → Area → MaybeAddress
-firstAt p want = firstFrom (λ s. p (placedAt want s)) doubleword (region / doubleword) 0
-
--- only starts of pages are tried: 4,096, where 8 is free to the same holder
+-- always on to a page start: 4,096, where 8 is free to the same holder
 pub lowest-at-a-page :
     RuledOut (λ k. fits-Storage ⊗ fits-Area ⊗ fits-end) lowest-place.Pre lowest-place.Post
-    (λ k a. firstFrom (λ s. permitted (areasIn (a .0)) (placedAt (a .1 .0) s)) page (region / page) 0)
+    (λ k a. search toPages mostTries a)
 unfolding tables-open
 lowest-at-a-page = wrong-at tt (storedAreas one, (area 0 8 5 1, tt)) refl (omega arith) (at 4096) refl refl
+
+-- only on to ends of areas: on another's page the search stands still at 104, and 4,096 is free
+pub lowest-at-ends-alone :
+    RuledOut (λ k. fits-Storage ⊗ fits-Area ⊗ fits-end) lowest-place.Pre lowest-place.Post
+    (λ k a. search toEnds mostTries a)
+unfolding tables-open
+lowest-at-ends-alone = wrong-at tt (storedAreas held, (area 0 8 5 1, tt)) refl (omega arith) isNowhere refl refl
+
+-- back to the start of the area in the way: the search stands still at 0, and 8 is free
+pub lowest-back-to-the-start :
+    RuledOut (λ k. fits-Storage ⊗ fits-Area ⊗ fits-end) lowest-place.Pre lowest-place.Post
+    (λ k a. search toStart mostTries a)
+unfolding tables-open
+lowest-back-to-the-start = wrong-at tt (storedAreas one, (area 0 8 5 1, tt)) refl (omega arith) isNowhere refl refl
+
+-- one page too far past another's: 8,192, where 4,096 is free
+pub lowest-a-page-too-far :
+    RuledOut (λ k. fits-Storage ⊗ fits-Area ⊗ fits-end) lowest-place.Pre lowest-place.Post
+    (λ k a. search pageTooFar mostTries a)
+unfolding tables-open
+lowest-a-page-too-far = wrong-at tt (storedAreas held, (area 0 8 5 1, tt)) refl (omega arith) (at 8192) refl refl
+
+-- no further than the first page with an area of another: none, where 4,096 is free
+pub lowest-stops-at-others :
+    RuledOut (λ k. fits-Storage ⊗ fits-Area ⊗ fits-end) lowest-place.Pre lowest-place.Post
+    (λ k a. search stopsAtOthers mostTries a)
+unfolding tables-open
+lowest-stops-at-others = wrong-at tt (storedAreas held, (area 0 8 5 1, tt)) refl (omega arith) isNowhere refl refl
+
+-- 128 tries, without those for pages: behind 128 areas the 129th finds 1,024
+pub lowest-tries-without-pages :
+    RuledOut (λ k. fits-Storage ⊗ fits-Area ⊗ fits-end) lowest-place.Pre lowest-place.Post
+    (λ k a. search past mostAreas a)
+unfolding tables-open
+lowest-tries-without-pages = wrong-at tt (storedAreas full, (area 0 8 10 1, tt)) refl (omega arith) isNowhere refl refl
+
+-- 32 tries, without those for areas: behind 32 areas the 33rd finds 256
+pub lowest-tries-without-areas :
+    RuledOut (λ k. fits-Storage ⊗ fits-Area ⊗ fits-end) lowest-place.Pre lowest-place.Post
+    (λ k a. search past (region / page) a)
+unfolding tables-open
+lowest-tries-without-areas =
+    wrong-at tt (storedAreas (packed 32), (area 0 8 10 1, tt)) refl (omega arith) isNowhere refl refl
+
+-- THE SEARCH OF ALL DOUBLEWORDS, by another test: the first of so many that passes, from s on
+abbrev firstFrom : (ℕ → Bool) → ℕ → ℕ → MaybeAddress
+firstFrom p zero s = Nowhere
+firstFrom p (suc tries) s = cond (p s) (At (address s)) (firstFrom p tries (s + doubleword))
+
+-- the first of the region at which an area passes
+abbrev firstAt : (Area → Bool) → Area → MaybeAddress
+firstAt p want = firstFrom (λ s. p (placedAt want s)) (region / doubleword) 0
 
 -- an area past all others
 abbrev pastAll : List Area → Area → Bool

@@ -1,5 +1,6 @@
 pub mod Opened
 pub mod Wrong
+pub mod Searches
 pub mod Fitting
 pub mod Samples
 pub mod Parts

@@ -15,6 +15,7 @@ use Rattle.asks.specs.Coding.{codesOf, nonzero}
 use Rattle.events.specs.Blocks.{tallyFrom}
 use Rattle.ecbwaits.specs.Waits.{waitedBy}
 use Rattle.storage.specs.Stored.{isZero as isZeroArea, restZero as restZeroAreas, packedAreas}
+use Rattle.rooms.specs.Bars.{barOf, nextAt}
 use Rattle.rooms.specs.Found.{placeFor}
 use Rattle.locks.specs.Waiting.{wakeIf}
 use Rattle.signals.specs.Posts.{signalsOf}
@@ -25,6 +26,6 @@ use Rattle.services.specs.Serve.{servedOf}
 unfoldable pub tables-open : Unit {0}
 unfolding rules-open onceFrom padded taskChecked ecbChecked addressChecked wakeAt wipeAt shown isFine isZero allFine
     restZero packedEntries markedBy withMark reportReply reportWritten flagsOf someSet allSet codesOf nonzero
-    tallyFrom waitedBy isZeroArea restZeroAreas packedAreas placeFor wakeIf signalsOf waitedIn soundb answered
-    answeredWith servedOf
+    tallyFrom waitedBy isZeroArea restZeroAreas packedAreas barOf nextAt placeFor wakeIf signalsOf waitedIn soundb
+    answered answeredWith servedOf
 tables-open = tt

@@ -148,7 +148,7 @@ demand-one = record {
 
 -- DEMAND 2
 
-getmain-served : (s : Step) (ns : Names) (es : Ecbs) (area : List ℕ) (c : TaskNumber) (bytes subpool : ℕ)
+pub getmain-served : (s : Step) (ns : Names) (es : Ecbs) (area : List ℕ) (c : TaskNumber) (bytes subpool : ℕ)
     (conditional : Bool)
     → serviceOf s (Getmain c bytes subpool conditional) ns es area ≡ untouched area
     (getmainOf s c bytes subpool conditional)

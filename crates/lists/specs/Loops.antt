@@ -1,17 +1,29 @@
 -- Loops that look at the first n of an array until one decides: the answer is that of what is left, from place i on.
 -- The records' types tell the test, the array and the places, so that a proof cites the invariant and no more.
 use mathlib.Core.Path.{_≡_, refl, sym, ap, _∙_}
-use mathlib.Core.Bool.{Bool, true, false, not, cond, _&&_, _||_}
+use mathlib.Core.Bool.{Bool, true, false, not, cond, _&&_, _||_, and-true, false≢true}
 use mathlib.Core.List.{List, _∷_, map}
 use Prim.Native.Nat.{ℕ, _+_, _≤_, _<_}
+use native.Mathlib.Omega.{arith}
+use lib.Dec.{ltb}
 use lib.ListN.{length, getD, take}
 use lib.Seq.{slice}
-use borrow.Author.Tests.{not-true, not-false}
+use borrow.Author.Tests.{not-true, not-false, ltb-true, ltb-false}
+use Rattle.lists.specs.Bools.{and-left, and-right}
 use Rattle.lists.specs.Lists.{every, some, unskipped}
 use Rattle.lists.specs.Every.{every-fails, every-goes, every-end, every-of, some-of, some-here, some-later}
-use Rattle.lists.specs.Every.{some-end}
+use Rattle.lists.specs.Every.{some-end, slice-next}
 use Rattle.lists.specs.Keeping.{take-map}
 use Rattle.lists.specs.Skipping.{leftFrom, left-next, left-over}
+
+-- a loop to n that goes on is below n
+pub goes-on : (j n : ℕ) (b : Bool) → (ltb j n && b) ≡ true → j < n
+goes-on j n b h = ltb-true j n (and-left (ltb j n) b h)
+
+-- and one that has ended, though it might go on, is at n
+pub run-out : (j n : ℕ) (b : Bool) → j ≤ n → b ≡ true → (ltb j n && b) ≡ false → j ≡ n
+run-out j n true h g k = let m : n ≤ j = ltb-false j n (sym (and-true (ltb j n)) ∙ k) in omega arith
+run-out j n false h g k = absurd (false≢true g)
 
 -- all pass
 pub record All {A : Type 0} (f : A → Bool) (l : List A) (i n : ℕ) : Type 0 where
@@ -31,6 +43,30 @@ module _ {A : Type 0} {f : A → Bool} {l : List A} {i n : ℕ} (v : All f l i n
 
     pub all-goes-on : not b ≡ false → All f l (i + 1) n
     all-goes-on e = record { left = v .left ∙ every-goes f i n l d h k (sym t ∙ not-false b e) }
+
+-- all pass, in a loop that keeps in `yet` whether those looked at did
+pub record AllYet {A : Type 0} (f : A → Bool) (l : List A) (yet : Bool) (i n : ℕ) : Type 0 where
+  pub left : every f (take n l) ≡ (yet && every f (slice i n l))
+
+pub yet-start : {A : Type 0} {f : A → Bool} {l : List A} {n : ℕ} → AllYet f l true 0 n
+yet-start = record { left = refl }
+
+module _ {A : Type 0} {f : A → Bool} {l : List A} {yet : Bool} {i n : ℕ} (v : AllYet f l yet i n) where
+  pub yet-more : (ltb i n && yet) ≡ true → i < n
+  yet-more = goes-on i n yet
+
+  -- the element at place i, whose test came out as now
+  pub yet-on : n ≤ length l → (d : A) (now : Bool) → (ltb i n && yet) ≡ true → now ≡ f (getD l i d)
+      → AllYet f l now (i + 1) n
+  yet-on k d now h t = record {
+    left = v .left ∙ rw (and-right (ltb i n) yet h, t) (ap (every f) (slice-next i n l d (yet-more h) k));
+  }
+
+  pub yet-over : i ≤ n → (ltb i n && yet) ≡ false → yet ≡ true → every f (take n l) ≡ true
+  yet-over p h e = v .left ∙ rw e (every-end f i n l (run-out i n yet p e h))
+
+  pub yet-failed : yet ≡ false → every f (take n l) ≡ false
+  yet-failed e = v .left ∙ rw e
 
 -- all that the first n of an array show pass
 pub all-shown : {A B : Type 0} (view : A → B) (f : B → Bool) (n : ℕ) (l : List A)

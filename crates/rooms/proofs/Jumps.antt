@@ -1,22 +1,26 @@
 -- An area in the way stays in the way up to its bar, and the search may go on there.
-use mathlib.Core.Path.{_≡_, refl, sym, ap, _∙_}
+use mathlib.Core.Path.{_≡_, ap, _∙_}
 use mathlib.Core.Bool.{Bool, true, false, _&&_, _||_, and-false}
 use mathlib.Core.List.{List}
-use Prim.Native.Nat.{ℕ, _+_, _-_, _*_, _/_, _≤_, _<_}
+use Prim.Native.Nat.{ℕ, _+_, _-_, _*_, _/_, _%_, _≤_, _<_}
 use native.Mathlib.Omega.{arith}
 use lib.Dec.{leb}
-use lib.ListN.{take}
-use borrow.Author.Tests.{leb-true, leb-false, lt-leb}
+use borrow.Author.Tests.{leb-false, lt-leb}
 use Rattle.lists.specs.Pick.{pick}
+use Rattle.lists.specs.Lists.{every}
 use Rattle.lists.specs.Bools.{or-left, or-right}
 use Rattle.kinds.specs.Limits.{region, page, doubleword}
 use Rattle.kinds.specs.declared.areas.Area.{Area}
 use Rattle.rules.specs.Storage.{startOf, pastEnd, pastPage, firstPage, oneHolder, bytesApart, pagesApart, apart}
-use Rattle.rules.specs.Storage.{permitted, placedAt, lowestFrom, rounded}
+use Rattle.rules.specs.Storage.{permitted, placedAt, lowestFrom}
+use Rattle.laws.specs.Candidates.{isCandidate, alignedEnd}
 use Rattle.rooms.specs.Bars.{barOf, nextAt}
-use Rattle.rooms.proofs.Trials.{lowest-over, triesFrom, Trying, Testing}
+use Rattle.rooms.specs.OneOf.{OneOf, one-fails}
+use Rattle.rooms.specs.Tries.{triesLeft}
+use Rattle.rooms.proofs.Passed.{lowest-over, multiplesFrom}
+use Rattle.rooms.proofs.Landing.{onward, falls, candidate}
 
--- two ranges that meet, a byte's or a page's: neither ends before the other begins
+-- two ranges that meet, of bytes or of pages: neither ends before the other begins
 meet : (a b c d : ℕ) → (leb a b || leb c d) ≡ false → (b < a) × (d < c)
 meet a b c d e =
     (leb-false a b (or-left (leb a b) (leb c d) e), leb-false c d (or-right (leb a b) (leb c d) e))
@@ -77,40 +81,31 @@ module _ (w x : Area) where
           let h = pages-shared s (pages-of (bytes s) (pages s) (page-of-byte s) f) in
           (omega arith, λ u k m. rw (pages-met u (omega arith, omega arith)) (and-false (bytes u)))
 
--- WHERE THE SEARCH GOES ON: at a multiple of 8 that passes no try from the bar on, and above any try below the bar
-record Onward (b t : ℕ) : Type 0 where
-  whole : doubleword * (t / doubleword) ≡ t
-  inside : t ≤ region
-  near : t < b + doubleword
-  further : (s : ℕ) → s < region → s < b → s < t
+-- THE JUMP from s to u, past an area of l that is in the way
+pub record Jumped (l : List Area) (w : Area) (s u : ℕ) : Type 0 where
+  pub further : s < u
+  pub aligned : u % doubleword ≡ 0
+  -- the plain search from u on finds what that from s on finds
+  pub same : lowestFrom (multiplesFrom s) l w s ≡ lowestFrom (multiplesFrom u) l w u
+  pub fewer : triesLeft l u < triesLeft l s
+  pub candidate : every alignedEnd l ≡ true → u < region → isCandidate l u ≡ true
 
-onward : (b t : ℕ) → t ≡ nextAt b → Onward b t
-unfolding nextAt rounded pick
-onward b t e = one (leb region b) refl e
-  where
-    one : (o : Bool) → leb region b ≡ o → t ≡ pick o region ((b + (doubleword - 1)) / doubleword * doubleword)
-        → Onward b t
-    one true k q =
-        let h : region ≤ b = leb-true region b k in
-        record { whole = omega arith; inside = omega arith; near = omega arith; further = λ s i m. omega arith }
-    one false k q =
-        let h : b < region = leb-false region b k in
-        record { whole = omega arith; inside = omega arith; near = omega arith; further = λ s i m. omega arith }
-
--- THE JUMP, past an area in the way
-module _ {l : List Area} {n : ℕ} {w : Area} {s : ℕ} {a x : Area} {free : Bool} {j : ℕ}
-    (t : Testing l n w s a x free j) where
-  pub jump : free ≡ false → (b u : ℕ) → b ≡ barOf w x → u ≡ nextAt b → (s < u) × Trying l n w u
-  unfolding permitted
-  jump e b u p q =
-      let z = t .stopped e in
-      let g = in-way w x s (ap (λ (y : Area). apart y x) (sym (t .here)) ∙ z .0) in
-      let o = onward b u q in
-      let m : s < u = o .further s (t .inside) (omega (arith, g .0)) in
-      let d = (u - s) / doubleword in
-      let k : triesFrom s ≡ d + triesFrom u = omega (arith, o .whole, o .inside, t .trying .whole) in
-      let v : s + doubleword * d ≡ u = omega (arith, o .whole, t .trying .whole) in
-      let r = lowest-over (take n l) w (barOf w x) (triesFrom u) d s (omega (arith, o .near))
-      (λ y h i. rw (z .1 (apart (placedAt w y)) (g .1 y h i)) (and-false (leb (y + w .size) region))) in
-      let f = ap (λ (i : ℕ). lowestFrom i (take n l) w s) k ∙ r ∙ ap (lowestFrom (triesFrom u) (take n l) w) v in
-      (m, record { few = t .trying .few; full = t .trying .full; whole = o .whole; same = t .trying .same ∙ f })
+pub jumped : {l : List Area} {x : Area} → OneOf l x → (w : Area) (s u : ℕ) → s % doubleword ≡ 0
+    → s < region → apart (placedAt w s) x ≡ false → u ≡ nextAt (barOf w x) → Jumped l w s u
+unfolding permitted
+jumped {l} {x} held w s u aligned inside e q =
+    let g = in-way w x s e in
+    let o = onward (barOf w x) u q in
+    let m : s < u = o .further s inside (g .0) in
+    let d = (u - s) / doubleword in
+    let k : multiplesFrom s ≡ d + multiplesFrom u = omega (arith, o .aligned, o .inside) in
+    let v : s + doubleword * d ≡ u = omega (arith, o .aligned) in
+    let r = lowest-over l w (barOf w x) (multiplesFrom u) d s (omega (arith, o .near))
+    (λ y h i. rw (one-fails held (apart (placedAt w y)) (g .1 y h i)) (and-false (leb (y + w .size) region))) in
+    record {
+      further = m;
+      aligned = o .aligned;
+      same = ap (λ (i : ℕ). lowestFrom i l w s) k ∙ r ∙ ap (lowestFrom (multiplesFrom u) l w) v;
+      fewer = falls l w x held u q s m;
+      candidate = candidate l w x held u q;
+    }

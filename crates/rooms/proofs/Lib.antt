@@ -1,3 +1,6 @@
-pub mod Trials
+pub mod Passed
+pub mod Landing
 pub mod Jumps
+pub mod Jumping
+pub mod Trials
 pub mod Promises

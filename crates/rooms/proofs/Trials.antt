@@ -1,99 +1,87 @@
--- The search of the lowest address, try by try, among the first n areas of l.
+-- THE CODE'S SEARCH, try by try, among the first n areas of l.
 use mathlib.Core.Path.{_≡_, refl, sym, ap, _∙_}
 use mathlib.Core.Bool.{Bool, true, false, _&&_, true≢false}
 use mathlib.Core.List.{List}
-use Prim.Native.Nat.{ℕ, zero, suc, _+_, _-_, _*_, _/_, _≤_, _<_}
+use Prim.Native.Nat.{ℕ, zero, _+_, _%_, _≤_, _<_}
 use native.Mathlib.Omega.{arith}
 use lib.Dec.{ltb}
 use lib.ListN.{length, getD, take}
-use lib.Seq.{slice, getD-take, length-take-le}
-use borrow.Author.Tests.{le-leb, lt-leb, ltb-true, ltb-false}
+use lib.Seq.{getD-take, length-take-le}
+use borrow.Author.Tests.{le-leb, ltb-true, ltb-false}
 use Rattle.lists.specs.Lists.{every}
-use Rattle.lists.specs.Bools.{and-left, and-right, not-so, never}
-use Rattle.lists.specs.Every.{slice-next, every-end}
+use Rattle.lists.specs.Bools.{and-left}
+use Rattle.lists.specs.Loops.{AllYet, yet-start, yet-more, yet-on, yet-over}
 use Rattle.lists.specs.Setting.{every-at}
 use Rattle.kinds.specs.Limits.{mostAreas, region, doubleword}
 use Rattle.kinds.specs.declared.areas.Area.{Area}
 use Rattle.kinds.specs.declared.numbers.MaybeAddress.the-variants.{At, Nowhere}
 use Rattle.rules.specs.Storage.{pastEnd, apart, permitted, placedAt, lowestFrom, lowest}
+use Rattle.laws.specs.Candidates.{isCandidate, alignedEnd}
+use Rattle.rooms.specs.Bars.{barOf, nextAt}
+use Rattle.rooms.specs.OneOf.{OneOf}
+use Rattle.rooms.specs.Tries.{mostTries, triesLeft, tries-few, tries-over}
+use Rattle.rooms.proofs.Passed.{multiplesFrom, lowest-here, lowest-beyond}
+use Rattle.rooms.proofs.Jumps.{jumped}
 
--- THE TRIES: so many are left, from s on
-module _ (l : List Area) (w : Area) where
-  lowest-here : (m s : ℕ) → 0 < m → permitted l (placedAt w s) ≡ true → lowestFrom m l w s ≡ At (record { 0 = s })
-  unfolding lowestFrom
-  lowest-here zero s h e = absurd (omega arith)
-  lowest-here (suc m) s h e = rw e
-
-  lowest-next : (m s : ℕ) → permitted l (placedAt w s) ≡ false
-      → lowestFrom (suc m) l w s ≡ lowestFrom m l w (s + doubleword)
-  unfolding lowestFrom
-  lowest-next m s e = rw e
-
-  -- k tries from s on are passed over: all below b, and not permitted there
-  pub lowest-over : (b m k s : ℕ) → s + doubleword * k < b + doubleword
-      → ((u : ℕ) → s ≤ u → u < b → permitted l (placedAt w u) ≡ false)
-      → lowestFrom (k + m) l w s ≡ lowestFrom m l w (s + doubleword * k)
-  lowest-over b m zero s h f =
-      let e : s ≡ s + doubleword * zero = omega arith in
-      let d : zero + m ≡ m = omega arith in
-      λ i. lowestFrom (d i) l w (e i)
-  lowest-over b m (suc k) s h f =
-      let d : suc k + m ≡ suc (k + m) = omega arith in
-      let e : s + doubleword + doubleword * k ≡ s + doubleword * suc k = omega arith in
-      ap (λ (i : ℕ). lowestFrom i l w s) d ∙ lowest-next (k + m) s (f s (omega arith) (omega arith))
-      ∙ lowest-over b m k (s + doubleword) (omega arith) (λ u g v. f u (omega arith) v)
-      ∙ ap (lowestFrom m l w) e
-
-  -- what ends beyond the region does so further up too
-  lowest-beyond : (m s : ℕ) → region < s + w .size → lowestFrom m l w s ≡ Nowhere
-  unfolding lowestFrom permitted
-  lowest-beyond zero s h = refl
-  lowest-beyond (suc m) s h = rw (lt-leb _ _ h) (lowest-beyond m (s + doubleword) (omega arith))
-
--- how many tries there are from s on
-abbrev pub triesFrom : ℕ → ℕ
-triesFrom s = (region - s) / doubleword
-
--- BEFORE A TRY: the tries from s on find what all tries find
-pub record Trying (l : List Area) (n : ℕ) (w : Area) (s : ℕ) : Type 0 where
+-- BEFORE A TRY at s: the plain search from s on finds what all of it finds, and no more addresses are left than tries
+pub record Trying (l : List Area) (n : ℕ) (w : Area) (s tries : ℕ) : Type 0 where
   pub few : n ≤ mostAreas
   pub full : length l ≡ mostAreas
-  pub whole : doubleword * (s / doubleword) ≡ s
-  pub same : lowest (take n l) w ≡ lowestFrom (triesFrom s) (take n l) w s
+  pub aligned : s % doubleword ≡ 0
+  pub same : lowest (take n l) w ≡ lowestFrom (multiplesFrom s) (take n l) w s
+  pub left : tries + triesLeft (take n l) s ≤ mostTries
+  -- "Search those": where every area ends at a multiple of 8, only candidates are tried
+  pub candidate : every alignedEnd (take n l) ≡ true → s < region → isCandidate (take n l) s ≡ true
 
-module _ {l : List Area} {n : ℕ} {w : Area} {s : ℕ} (h : Trying l n w s) where
+-- the search begins
+pub tries-first : (l : List Area) (n : ℕ) (w : Area) → n ≤ mostAreas → length l ≡ mostAreas → Trying l n w 0 0
+unfolding isCandidate
+tries-first l n w h e = record {
+  few = h;
+  full = e;
+  aligned = refl;
+  same = refl;
+  left = omega (arith, tries-few (take n l) (rw (length-take-le n l (omega arith)) h));
+  candidate = λ v i. refl;
+}
+
+module _ {l : List Area} {n : ℕ} {w : Area} {s tries : ℕ} (h : Trying l n w s tries) where
   pub none-beyond : (a : Area) (e : ℕ) → a ≡ placedAt w s → e ≡ pastEnd a → region < e → Nowhere ≡ lowest (take n l) w
   none-beyond a e p q k =
       let z : region < s + w .size = omega (arith, ap pastEnd p) in
-      sym (h .same ∙ lowest-beyond (take n l) w (triesFrom s) s z)
+      sym (h .same ∙ lowest-beyond (take n l) w (multiplesFrom s) s z)
 
-  pub none-left : region ≤ s → Nowhere ≡ lowest (take n l) w
+  -- it ends at the region's end; the count never ends it earlier, for then nothing is left
+  pub none-left : (ltb s region && ltb tries mostTries) ≡ false → Nowhere ≡ lowest (take n l) w
   unfolding lowestFrom
   none-left k =
-      let z : triesFrom s ≡ zero = omega arith in
+      let e : region ≤ s = one (ltb s region) refl k in
+      let z : multiplesFrom s ≡ zero = omega arith in
       sym (h .same ∙ ap (λ (m : ℕ). lowestFrom m (take n l) w s) z)
+    where
+      one : (b : Bool) → ltb s region ≡ b → (b && ltb tries mostTries) ≡ false → region ≤ s
+      one true p q =
+          let m : mostTries ≤ tries = ltb-false tries mostTries q in
+          tries-over (take n l) s (omega (arith, h .left))
+      one false p q = ltb-false s region p
 
 -- ONE TRY, of the area a wanted at s: the areas from place j on are still to be tested, and those before came out as
 -- `free` says. Where one was not apart, it is x, the last tested, and one of the n.
-pub record Testing (l : List Area) (n : ℕ) (w : Area) (s : ℕ) (a x : Area) (free : Bool) (j : ℕ) : Type 0 where
-  pub trying : Trying l n w s
+pub record Testing (l : List Area) (n : ℕ) (w : Area) (s tries : ℕ) (a x : Area) (free : Bool) (j : ℕ) : Type 0 where
+  pub trying : Trying l n w s tries
   pub inside : s < region
   pub here : a ≡ placedAt w s
   pub ends : pastEnd a ≤ region
   pub past : j ≤ n
-  pub tried : every (apart a) (take n l) ≡ (free && every (apart a) (slice j n l))
-  pub stopped : free ≡ false → (apart a x ≡ false) × ((f : Area → Bool) → f x ≡ false → every f (take n l) ≡ false)
+  pub tested : AllYet (apart a) l free j n
+  pub stopped : free ≡ false → (apart a x ≡ false) × OneOf (take n l) x
 
-module _ {l : List Area} {n : ℕ} {w : Area} {s : ℕ} {a x : Area} {free : Bool} {j : ℕ}
-    (t : Testing l n w s a x free j) where
-  -- a further area is to be tested
-  pub more : (ltb j n && free) ≡ true → j < n
-  more h = ltb-true j n (and-left (ltb j n) free h)
-
+module _ {l : List Area} {n : ℕ} {w : Area} {s tries : ℕ} {a x : Area} {free : Bool} {j : ℕ}
+    (t : Testing l n w s tries a x free j) where
   pub tests-on : (d : Area) (now : Bool) → (ltb j n && free) ≡ true → now ≡ apart a (getD l j d)
-      → Testing l n w s a (getD l j d) now (j + 1)
+      → Testing l n w s tries a (getD l j d) now (j + 1)
   tests-on d now h q =
-      let k : j < n = more h in
+      let k : j < n = yet-more (t .tested) h in
       let z : n ≤ length l = omega (arith, t .trying .few, t .trying .full) in
       record {
         trying = t .trying;
@@ -101,8 +89,8 @@ module _ {l : List Area} {n : ℕ} {w : Area} {s : ℕ} {a x : Area} {free : Boo
         here = t .here;
         ends = t .ends;
         past = omega arith;
-        tried = t .tried ∙ rw (and-right (ltb j n) free h, q) (ap (every (apart a)) (slice-next j n l d k z));
-        stopped = λ e. (sym q ∙ e, λ f g. not-so (every f (take n l)) (λ u. never (f (getD l j d)) (passes f k z u) g));
+        tested = yet-on (t .tested) z d now h q;
+        stopped = λ e. (sym q ∙ e, record { passes = λ f u. passes f k z u });
       }
     where
       passes : (f : Area → Bool) → j < n → n ≤ length l → every f (take n l) ≡ true → f (getD l j d) ≡ true
@@ -113,27 +101,38 @@ module _ {l : List Area} {n : ℕ} {w : Area} {s : ℕ} {a x : Area} {free : Boo
   pub found : (ltb j n && free) ≡ false → free ≡ true → At (record { 0 = s }) ≡ lowest (take n l) w
   unfolding permitted
   found h e =
-      let k : n ≤ j = ltb-false j n (left (ltb j n) free e h) in
-      let p : every (apart a) (take n l) ≡ true =
-      t .tried ∙ rw e (every-end (apart a) j n l (omega (arith, t .past))) in
-      let q : permitted (take n l) a ≡ true = rw (le-leb _ _ (t .ends)) p in
-      let m : 0 < triesFrom s = omega (arith, t .trying .whole, t .inside) in
+      let q : permitted (take n l) a ≡ true = rw (le-leb _ _ (t .ends)) (yet-over (t .tested) (t .past) h e) in
+      let m : 0 < multiplesFrom s = omega (arith, t .trying .aligned, t .inside) in
       let r = ap (permitted (take n l)) (sym (t .here)) ∙ q in
-      sym (t .trying .same ∙ lowest-here (take n l) w (triesFrom s) s m r)
-    where
-      left : (b f : Bool) → f ≡ true → (b && f) ≡ false → b ≡ false
-      left true f p q = sym p ∙ q
-      left false f p q = refl
+      sym (t .trying .same ∙ lowest-here (take n l) w (multiplesFrom s) s m r)
+
+  -- one stands in the way, and the search goes on past it
+  pub jump : free ≡ false → (b u : ℕ) → b ≡ barOf w x → u ≡ nextAt b → (s < u) × Trying l n w u (tries + 1)
+  jump e b u p q =
+      let z = t .stopped e in
+      let i : apart (placedAt w s) x ≡ false = ap (λ (y : Area). apart y x) (sym (t .here)) ∙ z .0 in
+      let g = jumped (z .1) w s u (t .trying .aligned) (t .inside) i (q ∙ ap nextAt p) in (
+        g .further,
+        record {
+          few = t .trying .few;
+          full = t .trying .full;
+          aligned = g .aligned;
+          same = t .trying .same ∙ g .same;
+          left = omega (arith, t .trying .left, g .fewer);
+          candidate = g .candidate;
+        },
+      )
 
 -- a try begins
-pub tests-first : {l : List Area} {n : ℕ} {w : Area} {s : ℕ} {a x : Area} → Trying l n w s → s < region
-    → a ≡ placedAt w s → pastEnd a ≤ region → Testing l n w s a x true 0
-tests-first h k p e = record {
+pub tests-first : {l : List Area} {n : ℕ} {w : Area} {s tries : ℕ} {a x : Area} → Trying l n w s tries
+    → (ltb s region && ltb tries mostTries) ≡ true → a ≡ placedAt w s → pastEnd a ≤ region
+    → Testing l n w s tries a x true 0
+tests-first {s = s} {tries = tries} h k p e = record {
   trying = h;
-  inside = k;
+  inside = ltb-true s region (and-left (ltb s region) (ltb tries mostTries) k);
   here = p;
   ends = e;
   past = omega arith;
-  tried = refl;
+  tested = yet-start;
   stopped = λ q. absurd (true≢false q);
 }

@@ -49,6 +49,10 @@ fn next(bar: u64) -> u32
     (bar as u32 + (Address::DOUBLEWORD - 1)) / Address::DOUBLEWORD * Address::DOUBLEWORD
 }
 
+// The page starts, of which the region's start is one, and the ends of areas: a search comes to no other address in
+// sound tables, and to no more in any. So the count never cuts one short.
+const TRIES: usize = (Address::REGION / Address::PAGE) as usize + Area::PLACES;
+
 // The lowest multiple of 8 at which the area wanted is permitted. The areas are read here, so that no table is copied
 // for each address tried.
 pub fn lowest(s: Storage, want: Area) -> MaybeAddress
@@ -57,7 +61,8 @@ pub fn lowest(s: Storage, want: Area) -> MaybeAddress
 {
     let n = s.count;
     let mut at: u32 = 0;
-    while at < Address::REGION {
+    let mut tries = 0;
+    while (at < Address::REGION) & (tries < TRIES) {
         let a = placed(want, Address(at));
         // What ends beyond the region here does so further up too.
         if (Address::REGION as u64) < areas::end_of(a) {
@@ -77,6 +82,7 @@ pub fn lowest(s: Storage, want: Area) -> MaybeAddress
         // What is not apart here is not apart below its bar.
         let up_to = bar(want, x);
         at = next(up_to);
+        tries += 1;
     }
     MaybeAddress::Nowhere
 }

@@ -1,4 +1,4 @@
-//! A request of ENQ or DEQ that was made, and tests of what it shows.
+//! A request of ENQ, DEQ or GETMAIN that was made, and tests of what it shows.
 
 use super::sights::Sight;
 use crate::control::entry_of;
@@ -7,7 +7,8 @@ use crate::numbers::ENTRIES;
 use crate::request::{Answer, Request};
 use crate::tables::Step;
 
-/// The tables before it and after it, its names, the codes area after it.
+/// The tables before it and after it, its names, the codes area after it; GETMAIN has neither
+/// names nor codes.
 pub struct Made<'a> {
     pub before: &'a Step,
     pub after: &'a Step,

@@ -1,10 +1,12 @@
 //! Counts what a script reaches: answers per service and report, rules of sound tables
 //! broken, what the lists of the reports show, what the system's names come to, what HAVE
-//! skips.
+//! skips, which addresses GETMAIN gives.
 
 mod made;
-mod sights;
+pub mod readings;
+pub mod sights;
 pub mod skips;
+pub mod storage;
 mod system;
 
 use std::collections::BTreeMap;
@@ -44,17 +46,19 @@ const EXPECTED: [(&str, &[u32]); 21] = [
     ("queues", &[0, 100, 104, 108]),
 ];
 
-/// All that is looked for in requests of ENQ and DEQ, beside their answers.
-fn of_names() -> Vec<(Sight, Test)> {
+/// All that is looked for in requests of ENQ, DEQ and GETMAIN, beside their answers.
+fn of_requests() -> Vec<(Sight, Test)> {
     let mut all = system::looked_for();
     all.extend(skips::looked_for());
+    all.extend(storage::looked_for());
+    all.extend(readings::looked_for());
     all
 }
 
 /// All that is looked for beside answers and rules.
 fn all_sights() -> Vec<Sight> {
     let mut all = sights::all();
-    all.extend(of_names().iter().map(|(sight, _)| *sight));
+    all.extend(of_requests().iter().map(|(sight, _)| *sight));
     all
 }
 
@@ -153,7 +157,7 @@ impl Counts {
             Outcome::Served(request, answer) => {
                 self.one("requests");
                 self.answer(word(&request), answer);
-                self.named(&before, runner, request, answer);
+                self.shown(&before, runner, request, answer);
                 if answer.number == 100 {
                     self.unsound(runner);
                 } else {
@@ -179,13 +183,15 @@ impl Counts {
         }
     }
 
-    /// What ENQ and DEQ made of the names on their lists.
-    fn named(&mut self, before: &Step, runner: &Runner, request: Request, answer: Answer) {
-        if let Request::Enq { .. } | Request::Deq { .. } = request {
-            let (names, codes) = (runner.lists().names, runner.codes());
-            let made = Made { before, after: &runner.step, request, names, codes, answer };
-            self.see(made::seen(of_names(), word(&request), &made));
-        }
+    /// What ENQ and DEQ made of the names on their lists, and which address GETMAIN gave.
+    fn shown(&mut self, before: &Step, runner: &Runner, request: Request, answer: Answer) {
+        let (names, codes) = match request {
+            Request::Enq { .. } | Request::Deq { .. } => (runner.lists().names, runner.codes()),
+            Request::Getmain { .. } => (&[][..], &[][..]),
+            _ => return,
+        };
+        let made = Made { before, after: &runner.step, request, names, codes, answer };
+        self.see(made::seen(of_requests(), word(&request), &made));
     }
 
     /// What a request changed.

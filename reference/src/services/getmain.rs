@@ -1,7 +1,7 @@
 //! GETMAIN
 
 use crate::ending::program_error;
-use crate::numbers::{rounded, AREAS, PAGE, REGION};
+use crate::numbers::{rounded, AREAS, GRAIN, REGION};
 use crate::request::Answer;
 use crate::tables::{Area, Step};
 
@@ -14,6 +14,10 @@ pub fn owner_of(subpool: u32, caller: u32) -> u32 {
     }
 }
 
+/// A way to find the address, from the areas that there are, by rising address, and the area
+/// that is wanted, whose address doesn't count.
+pub type Search = fn(&[Area], &Area) -> Option<u32>;
+
 /// "If none exists: answer 4, address 0 and nothing changed when conditional, error 205
 /// when not."
 pub fn getmain(
@@ -22,6 +26,7 @@ pub fn getmain(
     length: u32,
     subpool: u32,
     conditional: bool,
+    search: Search,
 ) -> Answer {
     // 107: GETMAIN with 128 areas in use (before any search)
     if step.area_count == AREAS {
@@ -29,7 +34,7 @@ pub fn getmain(
     }
     let wanted =
         Area { address: 0, length: rounded(length), subpool, owner: owner_of(subpool, caller) };
-    match lowest_fit(step.used_areas(), &wanted) {
+    match search(step.used_areas(), &wanted) {
         Some(address) => {
             insert(step, Area { address, ..wanted });
             Answer::done(address)
@@ -39,36 +44,35 @@ pub fn getmain(
     }
 }
 
-/// Why an area can't lie where it is: it meets the other one, or "touches a page that
-/// holds an area of another owner or subpool".
-pub fn hinders(there: &Area, wanted: &Area) -> bool {
-    if there.same_owner_and_subpool(wanted) {
-        (wanted.address as u64) < there.end() && (there.address as u64) < wanted.end()
-    } else {
-        wanted.first_page() <= there.last_page() && there.first_page() <= wanted.last_page()
+/// "The answer is the lowest multiple of 8 at which the area lies in the region, meets no area,
+/// and touches no page that holds an area of another owner or subpool."  Each multiple of 8 is
+/// tried in turn, from 0 on, and the first that passes is the answer.  From where the area would
+/// end beyond the region, no higher one has it in the region.
+pub fn lowest_fit(areas: &[Area], wanted: &Area) -> Option<u32> {
+    let mut tried = Area { address: 0, ..*wanted };
+    while lies_in_the_region(&tried) {
+        if !areas.iter().any(|there| meets(&tried, there) || touches_a_page_of(&tried, there)) {
+            return Some(tried.address);
+        }
+        tried.address += GRAIN;
     }
+    None
 }
 
-/// "the lowest multiple of 8 at which the area lies in the region, meets no area, and
-/// touches no page that holds an area of another owner or subpool".  One walk by rising
-/// address is enough: an area that hinders at one address hinders at every higher one up
-/// to its end (or the end of its last page), and those walked past lie lower.
-pub fn lowest_fit(areas: &[Area], wanted: &Area) -> Option<u32> {
-    let mut tried = *wanted;
-    for there in areas {
-        if hinders(there, &tried) {
-            tried.address = if there.same_owner_and_subpool(wanted) {
-                there.address + there.length
-            } else {
-                (there.last_page() as u32 + 1) * PAGE
-            };
-        }
-    }
-    if tried.end() <= REGION as u64 {
-        Some(tried.address)
-    } else {
-        None
-    }
+/// "lies in the region": no address is below 0, so its end decides.
+fn lies_in_the_region(tried: &Area) -> bool {
+    tried.end() <= REGION as u64
+}
+
+/// "meets no area": they have a byte in common.
+fn meets(tried: &Area, there: &Area) -> bool {
+    (tried.address as u64) < there.end() && (there.address as u64) < tried.end()
+}
+
+/// "touches no page that holds an area of another owner or subpool": each page that it touches is
+/// judged, and a page holds an area that has a byte there.
+fn touches_a_page_of(tried: &Area, there: &Area) -> bool {
+    !tried.same_owner_and_subpool(there) && tried.pages().any(|page| there.pages().contains(&page))
 }
 
 /// "areas by rising address"

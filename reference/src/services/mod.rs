@@ -14,12 +14,20 @@ pub mod getmain;
 pub mod post;
 pub mod wait;
 
+use self::getmain::Search;
 use crate::admission::refusal;
 use crate::request::{Answer, Lists, Request};
 use crate::tables::Step;
 
-/// Serve one request: the tables change, the codes are written, the answer comes back.
-pub fn serve(step: &mut Step, request: &Request, lists: Lists, codes: &mut [u8]) -> Answer {
+/// Serve one request: the tables change, the codes are written, the answer comes back.  GETMAIN
+/// finds its address by the search that is given.
+pub fn serve(
+    step: &mut Step,
+    request: &Request,
+    lists: Lists,
+    codes: &mut [u8],
+    search: Search,
+) -> Answer {
     if let Some(number) = refusal(step, request, lists, codes.len()) {
         return Answer::refused(number);
     }
@@ -36,7 +44,7 @@ pub fn serve(step: &mut Step, request: &Request, lists: Lists, codes: &mut [u8])
         Request::Post { ecb, code, .. } => post::post(step, ecb, code),
         Request::Clear { ecb, .. } => clear::clear(step, ecb),
         Request::Getmain { caller, length, subpool, conditional } => {
-            getmain::getmain(step, caller, length, subpool, conditional)
+            getmain::getmain(step, caller, length, subpool, conditional, search)
         }
         Request::Freemain { caller, address, length, subpool } => {
             freemain::freemain(step, caller, address, length, subpool)

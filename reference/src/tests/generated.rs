@@ -1,13 +1,14 @@
 //! Generated scripts: what must hold at every request.
 
-use crate::coverage::{self, skips};
+use crate::coverage::{self, readings, sights::Sight, skips, storage};
 use crate::generate::{generate, KINDS};
 use crate::names::Asked;
-use crate::numbers::{ENTRIES, TASKS};
+use crate::numbers::{AREAS, ENTRIES, TASKS};
 use crate::reports::Report;
 use crate::request::{Answer, Lists, Request, Ret};
 use crate::rings::Waits;
-use crate::runner::{each_line, Outcome, Runner};
+use crate::runner::{each_line, run, Outcome, Runner};
+use crate::services::getmain::lowest_fit;
 use crate::services::serve;
 use crate::sound::is_sound;
 use crate::tables::Step;
@@ -113,7 +114,7 @@ fn rest_by_none(before: &Step, caller: u32, names: &[Asked]) -> (u32, Step) {
     }
     let request = Request::Enq { caller, ret: Ret::None };
     let lists = Lists { names: &rest, ecbs: &[] };
-    let answer = serve(&mut after, &request, lists, &mut []);
+    let answer = serve(&mut after, &request, lists, &mut [], lowest_fit);
     (answer.number, after)
 }
 
@@ -143,24 +144,59 @@ fn have_is_none_with_the_rest() {
     assert!(seen.iter().all(|count| *count > 10), "{:?}", seen);
 }
 
-/// How much of what is looked for where HAVE skips names is missing from a script.
-fn skips_missing(script: &[u8]) -> usize {
+/// How much of what is looked for is missing from a script.
+fn missing(script: &[u8], looked_for: &[Sight]) -> usize {
     let mut out = Vec::new();
     coverage::report(&mut &script[..], &mut out).unwrap();
     let text = String::from_utf8(out).unwrap();
-    let gap = |what: &str| text.lines().any(|line| line == format!("gap: enq-have never {}", what));
-    skips::looked_for().iter().filter(|(sight, _)| gap(sight.1)).count()
+    let gap = |sight: &Sight| format!("gap: {} never {}", sight.0, sight.1);
+    looked_for.iter().filter(|sight| text.lines().any(|line| line == gap(sight))).count()
+}
+
+/// Scripts of seed 1, one after the other.
+fn scripts(kinds: &[(&str, u64)]) -> Vec<u8> {
+    let mut all = Vec::new();
+    for (kind, count) in kinds {
+        all.extend(script(1, kind, *count));
+        all.push(b'\n');
+    }
+    all
 }
 
 /// A few scripts reach all of it; where HAVE skips nothing, none of it.
 #[test]
 fn have_skips_names() {
-    let mut all = Vec::new();
-    for (kind, count) in [("queue", 4000), ("full", 4000), ("rings", 1000)].iter() {
-        all.extend(script(1, kind, *count));
-        all.push(b'\n');
-    }
-    assert_eq!(skips_missing(&all), 0);
+    let skips: Vec<Sight> = skips::looked_for().iter().map(|(sight, _)| *sight).collect();
+    let all = scripts(&[("queue", 4000), ("full", 4000), ("rings", 1000)]);
+    assert_eq!(missing(&all, &skips), 0);
     let few = b"fresh 9 9\nenq 1 have 1 S:0000000000000000.00\nenq 1 have 1 S:0000000000000000.01";
-    assert_eq!(skips_missing(few), skips::looked_for().len());
+    assert_eq!(missing(few, &skips), skips.len());
+}
+
+/// A few scripts reach all that is looked for in GETMAIN's answers; what they reach by luck alone,
+/// a full table where there is no room either, is put behind them.  One request reaches little.
+#[test]
+fn getmain_gives_addresses() {
+    let looked_for = storage::looked_for().into_iter().chain(readings::looked_for());
+    let storage: Vec<Sight> = looked_for.map(|(sight, _)| sight).collect();
+    let mut all = scripts(&[("storage", 9000), ("mixed", 9000), ("full", 3000)]);
+    all.extend_from_slice(b"fresh 9 9\n");
+    all.extend_from_slice(&b"getmain 1 8 0 cond\n".repeat(AREAS));
+    all.extend_from_slice(b"getmain 1 131072 0 cond\n");
+    assert_eq!(missing(&all, &storage), 0);
+    assert_eq!(missing(b"fresh 9 9\ngetmain 1 8 1 cond", &storage), storage.len() - 1);
+}
+
+/// The short walk, which is only timed, answers what the search by the words does.
+#[test]
+fn quick_answers_alike() {
+    for kind in KINDS.iter() {
+        let script = script(2, kind, 1500);
+        let said = |runner: Runner| {
+            let mut out = Vec::new();
+            run(runner, &mut &script[..], &mut out).unwrap();
+            out
+        };
+        assert!(said(Runner::new()) == said(Runner::quick()), "{}", kind);
+    }
 }

@@ -3,11 +3,12 @@
 use crate::control::has_control;
 use crate::names::Name;
 use crate::numbers::{GRAIN, PAGE, REGION, TASKS};
+use crate::quick;
 use crate::random::Random;
 use crate::reports::stuck;
 use crate::rings::Waits;
 use crate::runner::Runner;
-use crate::services::getmain::lowest_fit;
+use crate::services::getmain;
 use crate::sound::is_sound;
 use crate::tables::{Area, Entry};
 
@@ -28,25 +29,22 @@ fn may_lie(areas: &[Area], tried: &Area) -> bool {
     })
 }
 
-/// The lowest multiple of 8, tried one after the other, on a map of the region: which
-/// area covers each 8 bytes, and which areas each page holds.
-fn literal_fit(areas: &[Area], wanted: &Area) -> Option<u32> {
+/// A third voice: the first run that is long enough, on a map of the region that says of each 8
+/// bytes whether they are taken by an area or lie on a page of another holder.
+fn fit_on_a_map(areas: &[Area], wanted: &Area) -> Option<u32> {
     let grains = (REGION / GRAIN) as usize;
-    let mut taken = vec![false; grains];
     let mut closed = vec![false; grains];
     for area in areas {
-        for grain in area.address / GRAIN..(area.address + area.length) / GRAIN {
-            taken[grain as usize] = true;
-        }
+        let (mut first, mut end) = (area.address, area.address + area.length);
         if !area.same_owner_and_subpool(wanted) {
-            let first = area.address / PAGE * PAGE / GRAIN;
-            let last = ((area.address + area.length - 1) / PAGE + 1) * PAGE / GRAIN;
-            (first..last).for_each(|grain| closed[grain as usize] = true);
+            first = first / PAGE * PAGE;
+            end = ((end - 1) / PAGE + 1) * PAGE;
         }
+        (first / GRAIN..end / GRAIN).for_each(|grain| closed[grain as usize] = true);
     }
     let mut run = 0;
     for grain in 0..grains {
-        run = if taken[grain] || closed[grain] { 0 } else { run + 1 };
+        run = if closed[grain] { 0 } else { run + 1 };
         if run == (wanted.length / GRAIN) as usize {
             return Some((grain + 1 - run) as u32 * GRAIN);
         }
@@ -54,10 +52,51 @@ fn literal_fit(areas: &[Area], wanted: &Area) -> Option<u32> {
     None
 }
 
+/// What the three searches agree on.
+fn fit(areas: &[Area], wanted: &Area) -> Option<u32> {
+    let found = getmain::lowest_fit(areas, wanted);
+    assert_eq!(found, quick::lowest_fit(areas, wanted), "{:?} in {:?}", wanted, areas);
+    assert_eq!(found, fit_on_a_map(areas, wanted), "{:?} in {:?}", wanted, areas);
+    found
+}
+
+/// Document 02, section 4: "Only the region's start, page starts and the ends of areas can be the
+/// lowest fit."  Which of these it is: 0 for none, 1 for the region's start, 2 for a page start, 3
+/// for the end of an area, 4 for both, 5 for an end below an area of the same holder.
+fn sort_of(areas: &[Area], wanted: &Area, found: Option<u32>) -> usize {
+    let address = match found {
+        Some(address) => address,
+        None => return 0,
+    };
+    let ends = areas.iter().any(|there| there.end() == address as u64);
+    let below = |there: &Area| there.same_owner_and_subpool(wanted) && address < there.address;
+    match (address, address % PAGE == 0, ends) {
+        (0, _, _) => 1,
+        (_, true, false) => 2,
+        (_, true, true) => 4,
+        (_, false, true) => 3 + 2 * areas.iter().any(below) as usize,
+        _ => panic!("{:?} at {} in {:?}", wanted, address, areas),
+    }
+}
+
+/// An area of one of five holders, mostly small, now and then of whole pages.
+fn some_area(random: &mut Random) -> Area {
+    let most = random.pick(&[20, 200, 200, 3000]);
+    let mut length = (1 + random.below(most)) * GRAIN;
+    if random.one_in(8) {
+        length = (1 + random.below(3)) * PAGE;
+    }
+    let subpool = random.below(3);
+    let owner = if subpool == 0 { 0 } else { 1 + random.below(2) };
+    Area { address: 0, length, subpool, owner }
+}
+
+/// Tables as GETMAIN and FREEMAIN make them.
 #[test]
-fn lowest_fit_is_the_lowest() {
+fn the_lowest_fit_in_tables_of_a_run() {
     let mut random = Random::new(5);
     let mut areas: Vec<Area> = Vec::new();
+    let mut seen = [0; 6];
     for turn in 0..2000 {
         if turn % 250 == 0 {
             areas.clear();
@@ -66,18 +105,40 @@ fn lowest_fit_is_the_lowest() {
             let gone = random.below(areas.len() as u32) as usize;
             areas.remove(gone);
         }
-        let most = if random.one_in(4) { 3000 } else { 200 };
-        let length = (1 + random.below(most)) * GRAIN;
-        let subpool = random.below(3);
-        let owner = if subpool == 0 { 0 } else { 1 + random.below(2) };
-        let wanted = Area { address: 0, length, subpool, owner };
-        let found = lowest_fit(&areas, &wanted);
-        assert_eq!(found, literal_fit(&areas, &wanted), "{:?} in {:?}", wanted, areas);
+        let wanted = some_area(&mut random);
+        let found = fit(&areas, &wanted);
+        seen[sort_of(&areas, &wanted, found)] += 1;
         if let Some(address) = found {
             areas.push(Area { address, ..wanted });
             areas.sort_by_key(|area| area.address);
         }
     }
+    assert!(seen.iter().all(|count| *count > 10), "{:?}", seen);
+}
+
+/// Areas that obey GETMAIN's rules, wherever they lie, as pokes may put them.
+#[test]
+fn the_lowest_fit_wherever_areas_lie() {
+    let mut random = Random::new(9);
+    let mut seen = [0; 6];
+    for _ in 0..500 {
+        let mut areas: Vec<Area> = Vec::new();
+        for _ in 0..random.pick(&[3, 30, 300]) {
+            let grain = random.pick(&[GRAIN, GRAIN, PAGE]);
+            let address = random.below(REGION / grain) * grain;
+            let area = Area { address, ..some_area(&mut random) };
+            if area.end() <= REGION as u64 && may_lie(&areas, &area) {
+                areas.push(area);
+            }
+        }
+        areas.sort_by_key(|area| area.address);
+        for _ in 0..5 {
+            let wanted = some_area(&mut random);
+            let found = fit(&areas, &wanted);
+            seen[sort_of(&areas, &wanted, found)] += 1;
+        }
+    }
+    assert!(seen.iter().all(|count| *count > 10), "{:?}", seen);
 }
 
 /// Neighbours only, against every pair.

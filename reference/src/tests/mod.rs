@@ -7,16 +7,18 @@ mod literal;
 mod refusals;
 mod reports;
 mod skips;
+mod storage;
+mod storage_sights;
 mod system;
 mod text;
 mod unsound;
 
-use crate::runner::run;
+use crate::runner::{run, Runner};
 
 /// The output of a script.
 pub fn output(script: &[u8]) -> Vec<u8> {
     let mut out = Vec::new();
-    run(&mut &script[..], &mut out).unwrap();
+    run(Runner::new(), &mut &script[..], &mut out).unwrap();
     out
 }
 

@@ -9,6 +9,7 @@ use borrow.Author.Needs.{needs}
 use borrow.Author.Tests.{ltb-true}
 use lib.Dec.{ltb}
 use lib.ListN.{length}
+use Rattle.lists.specs.Loops.{goes-on}
 use Rattle.lists.specs.Arrays.{within, mapped-length}
 use Rattle.lists.specs.Bools.{both}
 use Rattle.kinds.specs.Limits.{longestList}
@@ -17,7 +18,7 @@ use Rattle.names.specs.Named.{askOf}
 use Rattle.queue.specs.Queues.{entryOf, entriesIn}
 use Rattle.queue.proofs.Barring.{Seeking, seek-start, seek-next, seek-end}
 use Rattle.flags.proofs.Filled.{Filled, none-filled, ask-next}
-use Rattle.flags.proofs.Flagged.{flags-are, goes-on, tail-available}
+use Rattle.flags.proofs.Flagged.{flags-are, tail-available}
 use Rattle.flags.proofs.available.Statement.{statement}
 use Rattle.flags.proofs.available.Tie as tie
 

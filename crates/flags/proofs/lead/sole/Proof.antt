@@ -7,6 +7,7 @@ use native.Mathlib.Nat.{le-antisymm}
 use native.Mathlib.Omega.{arith}
 use borrow.Author.Needs.{needs}
 use lib.ListN.{length}
+use Rattle.lists.specs.Loops.{goes-on}
 use Rattle.lists.specs.Arrays.{within, mapped-length}
 use Rattle.kinds.specs.Limits.{longestList}
 use Rattle.rules.specs.Names.{Ask}
@@ -14,7 +15,7 @@ use Rattle.rules.specs.Control.{soleOwner}
 use Rattle.names.specs.Named.{resourceOf, askOf}
 use Rattle.queue.specs.Queues.{entriesIn}
 use Rattle.flags.proofs.Filled.{Filled, none-filled, ask-next}
-use Rattle.flags.proofs.Flagged.{flags-are, goes-on}
+use Rattle.flags.proofs.Flagged.{flags-are}
 use Rattle.flags.proofs.Soles.{ReadTo, read-start, read-next, read-end}
 use Rattle.flags.proofs.lead.sole.Statement.{statement}
 use Rattle.flags.proofs.lead.sole.Tie as tie

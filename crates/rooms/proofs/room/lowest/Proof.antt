@@ -1,29 +1,31 @@
--- Tries from `at` on find what all find; areas before j are as `free` says (invariants). What is left falls (measures).
+-- The plain search from `at` on finds what all of it finds, no more addresses are left than tries, and `at` is a
+-- candidate where ends are multiples of 8; areas before j are as `free` says (invariants). What is left falls
+-- (measures).
 use Prim.Native.Nat.{_-_}
-use mathlib.Core.Path.{refl}
 use native.Mathlib.Omega.{arith}
 use Rattle.lists.specs.Arrays.{mapped-length}
+use Rattle.lists.specs.Loops.{yet-more}
 use Rattle.kinds.specs.Limits.{region}
-use Rattle.rooms.proofs.Trials.{Trying, Testing, more, tests-first, tests-on, found, none-beyond, none-left}
-use Rattle.rooms.proofs.Jumps.{jump}
+use Rattle.rooms.proofs.Trials.{Trying, Testing, tries-first, tests-first, tests-on, found}
+use Rattle.rooms.proofs.Trials.{jump, none-beyond, none-left}
 use borrow.Author.Needs.{needs}
 use Rattle.rooms.proofs.room.lowest.Statement.{statement}
 use Rattle.rooms.proofs.room.lowest.Tie as tie
 
 abbrev Inv-loop2 : tie.InvT-loop2
-Inv-loop2 want s n at a x₀ free₀ j₀ x free j = Testing (s .areas) n want at a x free j
+Inv-loop2 want s n at tries a x₀ free₀ j₀ x free j = Testing (s .areas) n want at tries a x free j
 
 abbrev μ-loop2 : tie.MeasureT-loop2
-μ-loop2 want s n at a x₀ free₀ j₀ x free j = n - j
+μ-loop2 want s n at tries a x₀ free₀ j₀ x free j = n - j
 
 abbrev Inv-loop : tie.InvT-loop
-Inv-loop want s n at₀ at = Trying (s .areas) n want at
+Inv-loop want s n at₀ tries₀ at tries = Trying (s .areas) n want at tries
 
 abbrev μ-loop : tie.MeasureT-loop
-μ-loop want s n at₀ at = region - at
+μ-loop want s n at₀ tries₀ at tries = region - at
 
 loop-holds : tie.Need-loop-holds Inv-loop2 μ-loop2 Inv-loop μ-loop
-loop-holds c = record { few = omega arith; full = search (needs, mapped-length); whole = refl; same = refl }
+loop-holds c = tries-first _ _ _ (omega arith) (search (needs, mapped-length))
 
 placed-requires : tie.Need-placed-requires Inv-loop2 μ-loop2 Inv-loop μ-loop
 placed-requires c κs = search needs
@@ -42,14 +44,14 @@ returns c =
 loop2-holds : tie.Need-loop2-holds Inv-loop2 μ-loop2 Inv-loop μ-loop
 loop2-holds c =
     let b = c .before .before in
-    tests-first (b .before .before .loop .inv) (omega arith) (b .placed .ensures)
+    tests-first (b .before .before .loop .inv) (b .before .loop-test .taken) (b .placed .ensures)
     (omega (arith, c .before .end-of .ensures))
 
 mul-x : tie.Need-mul-x Inv-loop2 μ-loop2 Inv-loop μ-loop
-mul-x c = let h = more (c .before .loop2 .inv) (c .loop2-test .taken) in omega arith
+mul-x c = let h = yet-more (c .before .loop2 .inv .tested) (c .loop2-test .taken) in omega arith
 
 element-copy-out-x : tie.Need-element-copy-out-x Inv-loop2 μ-loop2 Inv-loop μ-loop
-element-copy-out-x c = let h = more (c .before .loop2 .inv) (c .loop2-test .taken) in omega arith
+element-copy-out-x c = let h = yet-more (c .before .loop2 .inv .tested) (c .loop2-test .taken) in omega arith
 
 apart-requires : tie.Need-apart-requires Inv-loop2 μ-loop2 Inv-loop μ-loop
 apart-requires c κs = search needs
@@ -57,12 +59,12 @@ apart-requires c κs = search needs
 add-j : tie.Need-add-j Inv-loop2 μ-loop2 Inv-loop μ-loop
 add-j c =
     let b = c .before .before in
-    let h = more (b .before .loop2 .inv) (b .loop2-test .taken) in omega arith
+    let h = yet-more (b .before .loop2 .inv .tested) (b .loop2-test .taken) in omega arith
 
 loop2-less : tie.Need-loop2-less Inv-loop2 μ-loop2 Inv-loop μ-loop
 loop2-less c =
     let b = c .before .before in
-    let h = more (b .before .loop2 .inv) (b .loop2-test .taken) in omega arith
+    let h = yet-more (b .before .loop2 .inv .tested) (b .loop2-test .taken) in omega arith
 
 loop2-again : tie.Need-loop2-again Inv-loop2 μ-loop2 Inv-loop μ-loop
 loop2-again c =
@@ -77,6 +79,9 @@ bar-requires c κs = search needs
 next-requires : tie.Need-next-requires Inv-loop2 μ-loop2 Inv-loop μ-loop
 next-requires c κs = search needs
 
+add-tries : tie.Need-add-tries Inv-loop2 μ-loop2 Inv-loop μ-loop
+add-tries c = omega (arith, c .before .before .before .before .loop2 .inv .trying .left)
+
 loop-less : tie.Need-loop-less Inv-loop2 μ-loop2 Inv-loop μ-loop
 loop-less c =
     let b = c .before .before in
@@ -89,10 +94,10 @@ loop-again c =
     jump (b .before .before .loop2 .inv) (b .if2 .left) _ _ (c .before .bar .ensures) (c .next .ensures) .1
 
 returns-3 : tie.Need-returns-3 Inv-loop2 μ-loop2 Inv-loop μ-loop
-returns-3 c = none-left (c .before .loop .inv) (omega arith)
+returns-3 c = none-left (c .before .loop .inv) (c .loop-test .left)
 
 pub lowest-spec : {M : Type 1} → statement M
 lowest-spec =
     tie.close (tie.spec Inv-loop2 μ-loop2 Inv-loop μ-loop loop-holds placed-requires cast-if1 end-of-requires returns
     loop2-holds mul-x element-copy-out-x apart-requires add-j loop2-less loop2-again returns-2 bar-requires
-    next-requires loop-less loop-again returns-3)
+    next-requires add-tries loop-less loop-again returns-3)

@@ -6,8 +6,8 @@ use borrow.Author.Needs.{needs}
 use lib.ListN.{length, length-set}
 use Rattle.lists.specs.Arrays.{mapped-length}
 use Rattle.kinds.specs.Limits.{highestTask}
-use Rattle.cost.proofs.full_family.Statement.{statement}
-use Rattle.cost.proofs.full_family.Tie as tie
+use Rattle.cost.proofs.full.full_family.Statement.{statement}
+use Rattle.cost.proofs.full.full_family.Tie as tie
 
 abbrev Inv-loop : tie.InvT-loop
 Inv-loop f₀ i₀ f i = (i ≤ highestTask) × (length (f .places) ≡ highestTask)

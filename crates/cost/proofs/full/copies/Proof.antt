@@ -4,8 +4,8 @@ use mathlib.Core.Path.{_≡_, refl}
 use native.Mathlib.Omega.{arith}
 use borrow.Author.Needs.{needs}
 use lib.ListN.{length, length-set}
-use Rattle.cost.proofs.copies.Statement.{statement}
-use Rattle.cost.proofs.copies.Tie as tie
+use Rattle.cost.proofs.full.copies.Statement.{statement}
+use Rattle.cost.proofs.full.copies.Tie as tie
 
 abbrev Inv-loop : tie.InvT-loop
 Inv-loop n pair₀ i₀ pair i = (i ≤ n) × (length pair ≡ 2)

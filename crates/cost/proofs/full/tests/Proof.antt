@@ -2,8 +2,8 @@
 use Prim.Native.Nat.{_≤_, _-_}
 use native.Mathlib.Omega.{arith}
 use borrow.Author.Needs.{needs}
-use Rattle.cost.proofs.tests.Statement.{statement}
-use Rattle.cost.proofs.tests.Tie as tie
+use Rattle.cost.proofs.full.tests.Statement.{statement}
+use Rattle.cost.proofs.full.tests.Tie as tie
 
 abbrev Inv-loop : tie.InvT-loop
 Inv-loop n t₀ hits₀ i₀ t hits i = (i ≤ n) × (hits ≤ i)

@@ -1,0 +1,135 @@
+// Full tables, sound tests of them and copies.
+use crate::numbers::address;
+use crate::numbers::task;
+use family::Family;
+use kinds::Address;
+use kinds::Area;
+use kinds::Condition;
+use kinds::MaybeEcb;
+use kinds::Name;
+use kinds::Slot;
+use kinds::Task;
+use kinds::TaskNumber;
+use queue::Queue;
+use services::Tables;
+use storage::Storage;
+ghost use Prim.Native.Nat.{_≤_};
+
+// Of every task.
+const PRIORITY: u8 = Task::HIGHEST_PRIORITY as u8;
+
+// Of every minor part.
+const LENGTH: u16 = Name::LONGEST as u16;
+
+// Every task place taken, by daughters of task 1.
+fn full_family() -> Family {
+    let mut f = family::empty();
+    let mut i: usize = 0;
+    while i < TaskNumber::PLACES {
+        let mother = if i == 0 { 0 } else { 1 };
+        let x = Task {
+            condition: Condition::Ready,
+            mother: task(mother),
+            limit: PRIORITY,
+            dispatching: PRIORITY,
+            ecb: MaybeEcb::NoEcb,
+        };
+        f.places[i] = x;
+        i += 1;
+    }
+    f
+}
+
+// Every place of the queue taken, by exclusive entries, four of each task, whose names differ in the first byte of
+// their major parts only, which is compared last.
+fn full_queue() -> Queue {
+    let mut q = queue::empty();
+    let mut i: usize = 0;
+    while i < Slot::PLACES {
+        let mut name = Name {
+            major: [65u8; Name::MAJOR],
+            minor: [66u8; Name::LONGEST],
+            length: LENGTH,
+        };
+        name.major[0] = i as u8;
+        let x = Slot {
+            task: task((i % TaskNumber::PLACES + 1) as u32),
+            exclusive: true,
+            name,
+        };
+        q.slots[i] = x;
+        i += 1;
+    }
+    q.count = Slot::PLACES;
+    q
+}
+
+// Every area taken, each of the step, a doubleword long.
+fn full_storage() -> Storage {
+    let mut s = storage::empty();
+    let mut i: usize = 0;
+    while i < Area::PLACES {
+        let x = Area {
+            start: address(i as u32 * Address::DOUBLEWORD),
+            size: Address::DOUBLEWORD,
+            subpool: 0,
+            owner: task(0),
+        };
+        s.areas[i] = x;
+        i += 1;
+    }
+    s.count = Area::PLACES;
+    s
+}
+
+fn full_tables() -> Tables {
+    let family = full_family();
+    let queue = full_queue();
+    let storage = full_storage();
+    let events = events::empty();
+    Tables {
+        over: false,
+        code: 0,
+        family,
+        queue,
+        events,
+        storage,
+    }
+}
+
+// How many of n tests came out true.
+pub(crate) fn tests(n: u32) -> u32
+    ensures { λ r. ⌜ r ≤ n ⌝ }
+{
+    let mut t = full_tables();
+    let mut hits: u32 = 0;
+    let mut i: u32 = 0;
+    while i < n {
+        t.code = (i % 2) as u16;
+        hits += one_if(t.sound());
+        i += 1;
+    }
+    hits
+}
+
+fn one_if(b: bool) -> u32
+    ensures { λ r. ⌜ r ≤ 1 ⌝ }
+{
+    if b { 1 } else { 0 }
+}
+
+// n copies, from one place to another and back.
+pub(crate) fn copies(n: u32) -> u32 {
+    let t = full_tables();
+    let mut pair = [t; 2];
+    let mut i: u32 = 0;
+    while i < n {
+        let at = (i % 2) as usize;
+        let mut x = pair[at];
+        x.code = (i % 1000) as u16;
+        pair[1 - at] = x;
+        i += 1;
+    }
+    let last = pair[0];
+    last.code as u32
+}

@@ -1,0 +1,2 @@
+pub mod PageCases
+pub mod WrongCandidates

@@ -7,12 +7,13 @@ use Prim.Native.Nat.{ℕ, _+_, _-_, _*_, _/_, _%_, _≤_, _<_}
 use native.Mathlib.Omega.{arith}
 use lib.Dec.{eqb, leb, ltb}
 use lib.ListN.{length, length-map, length-append}
-use borrow.Author.Tests.{eqb-true, eqb-false, eq-eqb, leb-true, le-leb, ltb-true, lt-ltb}
+use borrow.Author.Tests.{eqb-true, eqb-false, eq-eqb, leb-true, le-leb}
 use Rattle.lists.specs.Lists.{every, some, keep, numbers}
 use Rattle.lists.specs.Bools.{both, join, either, or-left, or-right, same-test}
 use Rattle.lists.specs.Every.{every-gives, every-one, every-of, some-append, some-of}
 use Rattle.lists.specs.Keeping.{length-keep}
-use Rattle.kinds.specs.Limits.{region, page, doubleword}
+use Rattle.kinds.specs.Limits.{highestAddress, region, page, doubleword}
+use Rattle.kinds.specs.Ranges.{addressGood}
 use Rattle.kinds.specs.declared.areas.Area.{Area}
 use Rattle.kinds.specs.declared.numbers.Address.{Address}
 use Rattle.kinds.specs.declared.numbers.MaybeAddress.the-variants.{At}
@@ -23,17 +24,13 @@ use Rattle.rules.specs.Storage.{permitted, placedAt, lowest}
 use Rattle.laws.specs.Among.{some-same, some-besides, number-kept, numbers-has}
 use Rattle.laws.specs.Lowest.{Lowest, lowest-is, room-ends, room-apart, room-within}
 
--- nothing lies at the region's end or past it
-abbrev pub inRegion : ℕ → Bool
-inRegion s = ltb s region
-
 -- an area's end is the address past it
 abbrev pub endsAt : ℕ → Area → Bool
 endsAt s a = eqb s (pastEnd a)
 
--- the region's start is the first page start, and the ends are those of all areas, whoever holds them
+-- an address; the region's start is the first page start, and the ends are those of all areas, whoever holds them
 unfoldable pub isCandidate : List Area → ℕ → Bool
-isCandidate l s = inRegion s && (eqb (s % page) 0 || some (endsAt s) l)
+isCandidate l s = addressGood s && (eqb (s % page) 0 || some (endsAt s) l)
 
 -- the region's end is none
 pub region-no-candidate : (l : List Area) → isCandidate l region ≡ false
@@ -62,7 +59,7 @@ ends-aligned l h = every-gives areaShapeGood alignedEnd shaped l h
 pub candidate-aligned : (l : List Area) → every alignedEnd l ≡ true → (s : ℕ) → isCandidate l s ≡ true
     → s % doubleword ≡ 0
 unfolding isCandidate
-candidate-aligned l h s e = one (either (eqb (s % page) 0) (some (endsAt s) l) (both (inRegion s) _ e .1))
+candidate-aligned l h s e = one (either (eqb (s % page) 0) (some (endsAt s) l) (both (addressGood s) _ e .1))
   where
     aligned : ℕ → Bool
     aligned n = eqb (n % doubleword) 0
@@ -126,7 +123,8 @@ module _ (l : List Area) (w : Area) (long : 0 < w .size) (aligned : every aligne
   none-below : (s : ℕ) → Room l w s → ((t : ℕ) → t < s → Room l w t → ⊥) → isCandidate l s ≡ true
   unfolding isCandidate permitted
   none-below s r f =
-      join (inRegion s) _ (lt-ltb s region (room-within l w long s r))
+      let i : s < region = room-within l w long s r in
+      join (addressGood s) _ (le-leb s highestAddress (omega arith))
       (one (eqb (s % page) 0) (some (endsAt s) l) refl refl)
     where
       one : (a b : Bool) → eqb (s % page) 0 ≡ a → some (endsAt s) l ≡ b → (a || b) ≡ true
@@ -151,12 +149,12 @@ abbrev pub pageStarts : List ℕ
 pageStarts = map (λ (n : ℕ). n * page) (numbers 0 (region / page))
 
 unfoldable pub candidates : List Area → List ℕ
-candidates l = keep inRegion (pageStarts ++ map pastEnd l)
+candidates l = keep addressGood (pageStarts ++ map pastEnd l)
 
 -- the page starts are the multiples of 4,096 in the region
-starts-told : (s : ℕ) → inRegion s ≡ true → some (eqb s) pageStarts ≡ eqb (s % page) 0
+starts-told : (s : ℕ) → addressGood s ≡ true → some (eqb s) pageStarts ≡ eqb (s % page) 0
 starts-told s h =
-    let k : s < region = ltb-true s region h in
+    let k : s ≤ highestAddress = leb-true s highestAddress h in
     some-of (λ (n : ℕ). n * page) (eqb s) (numbers 0 (region / page))
     ∙ some-same (λ (n : ℕ). eqb s (n * page)) (λ (n : ℕ). eqb (s % page) 0 && eqb (s / page) n) one
     (numbers 0 (region / page))
@@ -183,11 +181,11 @@ starts-told s h =
 pub listed : (l : List Area) (s : ℕ) → some (eqb s) (candidates l) ≡ isCandidate l s
 unfolding isCandidate candidates
 listed l s =
-    number-kept s inRegion (pageStarts ++ map pastEnd l)
-    ∙ ap (λ (b : Bool). inRegion s && b) (some-append (eqb s) pageStarts (map pastEnd l))
-    ∙ one (inRegion s) refl
+    number-kept s addressGood (pageStarts ++ map pastEnd l)
+    ∙ ap (λ (b : Bool). addressGood s && b) (some-append (eqb s) pageStarts (map pastEnd l))
+    ∙ one (addressGood s) refl
   where
-    one : (b : Bool) → inRegion s ≡ b
+    one : (b : Bool) → addressGood s ≡ b
         → (b && (some (eqb s) pageStarts || some (eqb s) (map pastEnd l)))
         ≡ (b && (eqb (s % page) 0 || some (endsAt s) l))
     one true h = ap₂ _||_ (starts-told s h) (some-of pastEnd (eqb s) l)
@@ -199,4 +197,4 @@ unfolding candidates
 candidates-few l =
     subst (λ (n : ℕ). length (candidates l) ≤ n)
     (length-append pageStarts (map pastEnd l) ∙ ap (λ (n : ℕ). region / page + n) (length-map l pastEnd))
-    (length-keep inRegion (pageStarts ++ map pastEnd l))
+    (length-keep addressGood (pageStarts ++ map pastEnd l))

@@ -6,14 +6,15 @@ use mathlib.Core.Logic.{_⊎_, inl, inr}
 use Prim.Native.Nat.{ℕ, _+_, _-_, _*_, _%_, _≤_, _<_}
 use native.Mathlib.Omega.{arith}
 use lib.Dec.{eqb, leb}
-use borrow.Author.Tests.{leb-true, leb-false, lt-ltb, eq-eqb, eqb-true}
+use borrow.Author.Tests.{leb-true, leb-false, le-leb, eq-eqb, eqb-true}
 use Rattle.lists.specs.Pick.{pick}
 use Rattle.lists.specs.Lists.{every, some}
 use Rattle.lists.specs.Bools.{join}
-use Rattle.kinds.specs.Limits.{region, page, doubleword}
+use Rattle.kinds.specs.Limits.{highestAddress, region, page, doubleword}
+use Rattle.kinds.specs.Ranges.{addressGood}
 use Rattle.kinds.specs.declared.areas.Area.{Area}
 use Rattle.rules.specs.Storage.{pastEnd, pastPage, oneHolder, rounded}
-use Rattle.laws.specs.Candidates.{inRegion, endsAt, isCandidate, alignedEnd}
+use Rattle.laws.specs.Candidates.{endsAt, isCandidate, alignedEnd}
 use Rattle.rooms.specs.Bars.{barOf, nextAt}
 use Rattle.rooms.specs.OneOf.{OneOf, one-passes}
 use Rattle.rooms.specs.Tries.{triesLeft, page-falls, end-falls}
@@ -69,7 +70,7 @@ module _ (l : List Area) (w x : Area) (held : OneOf l x) (t : ℕ) (next : t ≡
   -- where every area ends at a multiple of 8, as in sound tables, it is a candidate
   pub candidate : every alignedEnd l ≡ true → t < region → isCandidate l t ≡ true
   unfolding isCandidate
-  candidate aligned i = join (inRegion t) _ (lt-ltb t region i) (one lands)
+  candidate aligned i = join (addressGood t) _ (le-leb t highestAddress (omega arith)) (one lands)
     where
       one : (t % page ≡ 0) ⊎ (t ≡ nextAt (pastEnd x)) → (eqb (t % page) 0 || some (endsAt t) l) ≡ true
       one (inl e) = rw (eq-eqb (t % page) 0 e)

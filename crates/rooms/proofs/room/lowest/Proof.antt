@@ -6,14 +6,14 @@ use native.Mathlib.Omega.{arith}
 use Rattle.lists.specs.Arrays.{mapped-length}
 use Rattle.lists.specs.Loops.{yet-more}
 use Rattle.kinds.specs.Limits.{region}
-use Rattle.rooms.proofs.Trials.{Trying, Testing, tries-first, tests-first, tests-on, found}
-use Rattle.rooms.proofs.Trials.{jump, none-beyond, none-left}
+use Rattle.rooms.proofs.Searching.{none-beyond, found}
+use Rattle.rooms.proofs.Trials.{Trying, Trial, tries-first, trial-first, trial-on, jump, none-left}
 use borrow.Author.Needs.{needs}
 use Rattle.rooms.proofs.room.lowest.Statement.{statement}
 use Rattle.rooms.proofs.room.lowest.Tie as tie
 
 abbrev Inv-loop2 : tie.InvT-loop2
-Inv-loop2 want s n at tries a x₀ free₀ j₀ x free j = Testing (s .areas) n want at tries a x free j
+Inv-loop2 want s n at tries a x₀ free₀ j₀ x free j = Trial (s .areas) n want at tries a x free j
 
 abbrev μ-loop2 : tie.MeasureT-loop2
 μ-loop2 want s n at tries a x₀ free₀ j₀ x free j = n - j
@@ -39,19 +39,20 @@ end-of-requires c κs = search needs
 returns : tie.Need-returns Inv-loop2 μ-loop2 Inv-loop μ-loop
 returns c =
     let b = c .before .before in
-    none-beyond (b .before .before .loop .inv) _ _ (b .placed .ensures) (c .before .end-of .ensures) (c .if1 .taken)
+    none-beyond (b .before .before .loop .inv .searching) _ _ (b .placed .ensures) (c .before .end-of .ensures)
+    (c .if1 .taken)
 
 loop2-holds : tie.Need-loop2-holds Inv-loop2 μ-loop2 Inv-loop μ-loop
 loop2-holds c =
     let b = c .before .before in
-    tests-first (b .before .before .loop .inv) (b .before .loop-test .taken) (b .placed .ensures)
+    trial-first (b .before .before .loop .inv) (b .before .loop-test .taken) (b .placed .ensures)
     (omega (arith, c .before .end-of .ensures))
 
 mul-x : tie.Need-mul-x Inv-loop2 μ-loop2 Inv-loop μ-loop
-mul-x c = let h = yet-more (c .before .loop2 .inv .tested) (c .loop2-test .taken) in omega arith
+mul-x c = let h = yet-more (c .before .loop2 .inv .testing .tested) (c .loop2-test .taken) in omega arith
 
 element-copy-out-x : tie.Need-element-copy-out-x Inv-loop2 μ-loop2 Inv-loop μ-loop
-element-copy-out-x c = let h = yet-more (c .before .loop2 .inv .tested) (c .loop2-test .taken) in omega arith
+element-copy-out-x c = let h = yet-more (c .before .loop2 .inv .testing .tested) (c .loop2-test .taken) in omega arith
 
 apart-requires : tie.Need-apart-requires Inv-loop2 μ-loop2 Inv-loop μ-loop
 apart-requires c κs = search needs
@@ -59,19 +60,21 @@ apart-requires c κs = search needs
 add-j : tie.Need-add-j Inv-loop2 μ-loop2 Inv-loop μ-loop
 add-j c =
     let b = c .before .before in
-    let h = yet-more (b .before .loop2 .inv .tested) (b .loop2-test .taken) in omega arith
+    let h = yet-more (b .before .loop2 .inv .testing .tested) (b .loop2-test .taken) in omega arith
 
 loop2-less : tie.Need-loop2-less Inv-loop2 μ-loop2 Inv-loop μ-loop
 loop2-less c =
     let b = c .before .before in
-    let h = yet-more (b .before .loop2 .inv .tested) (b .loop2-test .taken) in omega arith
+    let h = yet-more (b .before .loop2 .inv .testing .tested) (b .loop2-test .taken) in omega arith
 
 loop2-again : tie.Need-loop2-again Inv-loop2 μ-loop2 Inv-loop μ-loop
 loop2-again c =
-    let b = c .before .before in tests-on (b .before .loop2 .inv) _ _ (b .loop2-test .taken) (c .apart .ensures)
+    let b = c .before .before in trial-on (b .before .loop2 .inv) _ _ (b .loop2-test .taken) (c .apart .ensures)
 
 returns-2 : tie.Need-returns-2 Inv-loop2 μ-loop2 Inv-loop μ-loop
-returns-2 c = found (c .before .before .loop2 .inv) (c .before .loop2-test .left) (c .if2 .taken)
+returns-2 c =
+    let t = c .before .before .loop2 .inv in
+    found (t .trying .searching) (t .testing) (c .before .loop2-test .left) (c .if2 .taken)
 
 bar-requires : tie.Need-bar-requires Inv-loop2 μ-loop2 Inv-loop μ-loop
 bar-requires c κs = search needs

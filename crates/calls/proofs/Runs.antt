@@ -22,7 +22,8 @@ use Rattle.services.specs.Serve.{servedOf}
 use Rattle.services.specs.declared.Tables.{Tables}
 use Rattle.services.specs.declared.Answer.{Answer}
 use Rattle.services.proofs.Glue.{sound-step}
-use Rattle.services.proofs.Leaves.{step-tables, fresh-leaves-sound}
+use Rattle.tables.proofs.Admits.{step-tables}
+use Rattle.services.proofs.Leaves.{fresh-leaves-sound}
 use Rattle.services.proofs.Serves.{sound-serves, serve-leaves-sound}
 use Rattle.services.proofs.Tables.fresh.Reads as fresh
 use Rattle.services.proofs.Tables.stuck.Reads as stuck
@@ -130,7 +131,7 @@ module _ (f : Called fresh.Post) (z : f .result .reply ≡ Done) where
       pub calls-nobody-stuck : stuckTasks (stepOf t .queue) ≡ []
       calls-nobody-stuck = nobody-stuck _ (stepOf t) us begins (calls-run k sound-start) habit
 
-      pub calls-stuck-says-none : (c : Called stuck.Post) → c .given .0 ≡ t → t .over ≡ false
+      pub calls-stuck-says-none : (c : Called stuck.Post) → c .given .0 ≡ t → t .all .over ≡ false
           → c .result .reply ≡ Counted 0
       unfolding answeredWith
       calls-stuck-says-none c e o =

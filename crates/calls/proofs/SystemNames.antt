@@ -25,7 +25,7 @@ use Rattle.services.specs.Kept.{stepOf, saidWith, servedBy, soundb}
 use Rattle.services.specs.Serve.{servedOf}
 use Rattle.services.specs.declared.Tables.{Tables}
 use Rattle.services.specs.declared.Answer.{Answer}
-use Rattle.services.proofs.Glue.{sound-packed, sound-step, refused-kept}
+use Rattle.services.proofs.Glue.{sound-step, refused-kept}
 use Rattle.services.proofs.Serves.{unsound-serves}
 use Rattle.services.proofs.Tables.fresh.Reads as fresh
 use Rattle.calls.specs.Called.{Called}
@@ -43,7 +43,7 @@ module _ (t : Tables) (c : TaskNumber) (ret : Ret) (l : Names) (es : Ecbs) (area
   call-system-refused e =
       as-ruled t asked r codes h (promises k)
       ∙ ap servedBy (system-refused (stepOf t) c ret l es area (sound-step t h) o good e)
-      ∙ ap (untouched area) (sym (refused-kept t SystemName (sound-packed t h)))
+      ∙ ap (untouched area) (sym (refused-kept t SystemName h))
 
   -- .. exactly when some name of the list is a system name
   pub call-system-only : saidWith r codes .outcome .number ≡ refusalNumber SystemName → asksSystem l ≡ true

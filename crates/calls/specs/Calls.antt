@@ -8,7 +8,7 @@ use Rattle.kinds.specs.declared.requests.Request.{Request}
 use Rattle.kinds.specs.declared.requests.Request.the-variants.{Attach, Detach, End, Abend, Enq, Deq, Wait, Post, Clear}
 use Rattle.kinds.specs.declared.requests.Request.the-variants.{Getmain, Freemain, Dispatch}
 use Rattle.names.specs.Named.{namesIn}
-use Rattle.events.specs.Blocks.{ecbsIn}
+use Rattle.ecbs.specs.Blocks.{ecbsIn}
 use Rattle.rules.specs.Names.{Names}
 use Rattle.rules.specs.Events.{Ecbs}
 use Rattle.rules.specs.Serve.{Asked}

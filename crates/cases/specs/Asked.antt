@@ -4,7 +4,7 @@ use Rattle.kinds.specs.declared.ecbs.EcbList.{EcbList}
 use Rattle.kinds.specs.declared.names.NameList.{NameList}
 use Rattle.kinds.specs.declared.requests.Request.{Request}
 use Rattle.names.specs.Named.{namesIn}
-use Rattle.events.specs.Blocks.{ecbsIn}
+use Rattle.ecbs.specs.Blocks.{ecbsIn}
 use Rattle.services.specs.Serve.{servedOf}
 use Rattle.services.specs.declared.Tables.{Tables}
 

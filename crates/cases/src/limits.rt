@@ -52,7 +52,7 @@ pub(crate) fn case_11_names() -> Tables {
         taken,
         ask::one(false, ask::name(0, 0, LONGEST + 1)),
     );
-    show::entry_count(b"11", refused.queue);
+    show::entry_count(b"11", refused.all.queue);
     refused
 }
 
@@ -72,12 +72,12 @@ fn with_seven_groups(t: Tables) -> Tables {
 pub(crate) fn case_11_entries(t: Tables) {
     let most = with_seven_groups(t);
     let but_one = enq(b"11: 14 names", most, group(GROUPS, 14));
-    show::entry_count(b"11", but_one.queue);
+    show::entry_count(b"11", but_one.all.queue);
     let refused = enq(b"11: 2 names", but_one, group(GROUPS + 1, 2));
-    show::entry_count(b"11", refused.queue);
+    show::entry_count(b"11", refused.all.queue);
     let full = enq(b"11: 1 name", refused, group(GROUPS + 1, 1));
-    show::entry_count(b"11", full.queue);
+    show::entry_count(b"11", full.all.queue);
     let beyond = enq(b"11: 1 name", full, group(GROUPS + 2, 1));
-    show::entry_count(b"11", beyond.queue);
-    show::waiting(b"11", beyond.family);
+    show::entry_count(b"11", beyond.all.queue);
+    show::waiting(b"11", beyond.all.tasks);
 }

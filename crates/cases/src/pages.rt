@@ -49,7 +49,7 @@ pub(crate) fn every_page() {
         6,
     );
     let given = getmain(b"02-4: subpool 33", freed, LENGTH, PAGES + 1, false);
-    show::areas(b"02-4", given.storage);
+    show::areas(b"02-4", given.all.storage);
     let over = getmain(
         b"02-4: subpool 34, unconditional",
         given,

@@ -22,14 +22,14 @@ fn attach(text: &[u8], t: Tables, lpmod: u16, dpmod: i16) -> Tables {
 pub(crate) fn case_5() -> Tables {
     let t = ask::fresh(b"5: fresh step, 200/150");
     let r = attach(b"5: LPMOD 30, DPMOD 40", t, 30, 40);
-    show::priorities(b"5", r.family, ask::task(2));
+    show::priorities(b"5", r.all.tasks, ask::task(2));
     r
 }
 
 // 6: 200/0, neither below zero; and limit 0.
 pub(crate) fn case_6(t: Tables) {
     let low = attach(b"6: LPMOD 0, DPMOD -160", t, 0, -160);
-    show::priorities(b"6", low.family, ask::task(3));
+    show::priorities(b"6", low.all.tasks, ask::task(3));
     let lowest = attach(b"6: LPMOD 255, DPMOD 0", low, 255, 0);
-    show::priorities(b"6", lowest.family, ask::task(4));
+    show::priorities(b"6", lowest.all.tasks, ask::task(4));
 }

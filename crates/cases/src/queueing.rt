@@ -50,8 +50,8 @@ fn four_tasks() -> Tables {
 }
 
 fn told(text: &[u8], t: Tables) {
-    show::entries(text, t.queue);
-    show::waiting(text, t.family);
+    show::entries(text, t.all.queue);
+    show::waiting(text, t.all.tasks);
 }
 
 // 1: A and B own; C and D wait.
@@ -68,7 +68,7 @@ pub(crate) fn case_1() -> Tables {
 // 2: B's CHNG is 4 while A owns too, and 0 after A's DEQ.
 pub(crate) fn case_2(t: Tables) -> Tables {
     let refused = enq(b"2: B asks for CHNG", t, 3, Ret::Chng, true);
-    show::entries(b"2", refused.queue);
+    show::entries(b"2", refused.all.queue);
     let left = deq(b"2: A leaves", refused, 2);
     let changed = enq(b"2: B asks for CHNG", left, 3, Ret::Chng, true);
     told(b"2", changed);

@@ -2,8 +2,7 @@
 use crate::ask;
 use crate::ask::CODES;
 use crate::ask::UNWRITTEN;
-use events::Events;
-use family::Family;
+use ecbs::EcbTable;
 use kinds::Area;
 use kinds::Reply;
 use kinds::Slot;
@@ -11,6 +10,7 @@ use kinds::TaskNumber;
 use queue::Queue;
 use services::Tables;
 use storage::Storage;
+use tasks::TaskTable;
 ghost use Prim.Native.Nat.{_≤_};
 ghost use Rattle.kinds.specs.Limits.{mostEntries};
 
@@ -100,7 +100,7 @@ pub(crate) fn entry_count(text: &[u8], q: Queue) {
 }
 
 // The tasks that wait, for names or for posts.
-pub(crate) fn waiting(text: &[u8], f: Family) {
+pub(crate) fn waiting(text: &[u8], f: TaskTable) {
     words(text);
     words(b": tasks in a wait:");
     let mut n = TaskNumber::LOWEST;
@@ -111,8 +111,8 @@ pub(crate) fn waiting(text: &[u8], f: Family) {
     words(b"\n");
 }
 
-fn waiter(f: Family, n: u8) {
-    let task = family::at(f, ask::task(n as u32));
+fn waiter(f: TaskTable, n: u8) {
+    let task = tasks::at(f, ask::task(n as u32));
     let condition = task.condition;
     if condition.waits() {
         words(b" ");
@@ -120,8 +120,8 @@ fn waiter(f: Family, n: u8) {
     }
 }
 
-pub(crate) fn priorities(text: &[u8], f: Family, n: TaskNumber) {
-    let task = family::at(f, n);
+pub(crate) fn priorities(text: &[u8], f: TaskTable, n: TaskNumber) {
+    let task = tasks::at(f, n);
     words(text);
     words(b": limit ");
     number(task.limit as u64);
@@ -155,7 +155,7 @@ fn area(text: &[u8], a: Area) {
 }
 
 // The words of the first three ECBs after ECB 0, as the book has them.
-pub(crate) fn ecbs(text: &[u8], e: Events) {
+pub(crate) fn ecbs(text: &[u8], e: EcbTable) {
     words(text);
     words(b": words of ECBs 1, 2, 3:");
     word(e, 1);
@@ -164,17 +164,17 @@ pub(crate) fn ecbs(text: &[u8], e: Events) {
     words(b"\n");
 }
 
-fn word(e: Events, n: u32) {
-    let x = events::at(e, ask::ecb(n));
+fn word(e: EcbTable, n: u32) {
+    let x = ecbs::at(e, ask::ecb(n));
     words(b" ");
-    io::print_hex(1, events::word(x), 8);
+    io::print_hex(1, ecbs::word(x), 8);
 }
 
 pub(crate) fn step(text: &[u8], t: Tables) {
     words(text);
     words(b": step over ");
-    number(if t.over { 1 } else { 0 });
+    number(if t.all.over { 1 } else { 0 });
     words(b", code ");
-    number(t.code as u64);
+    number(t.all.code as u64);
     words(b"\n");
 }

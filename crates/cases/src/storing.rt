@@ -50,7 +50,7 @@ pub(crate) fn case_7() -> Tables {
     let b = getmain(b"7: 400 bytes of subpool 10", a, 400, 10, false);
     let c = getmain(b"7: 8 bytes of subpool 0", b, 8, 0, false);
     let d = getmain(b"7: 4,000 bytes of subpool 10", c, 4000, 10, false);
-    show::areas(b"7", d.storage);
+    show::areas(b"7", d.all.storage);
     d
 }
 
@@ -64,7 +64,7 @@ pub(crate) fn case_8(t: Tables) {
         10,
     );
     let r = getmain(b"8: 8 bytes of subpool 5", freed, 8, 5, false);
-    show::areas(b"8", r.storage);
+    show::areas(b"8", r.all.storage);
 }
 
 // 9: the whole region, and then no room.
@@ -78,9 +78,9 @@ pub(crate) fn case_9() {
         false,
     );
     let four = getmain(b"9: 8 bytes, conditional", all, 8, 3, true);
-    show::areas(b"9", four.storage);
+    show::areas(b"9", four.all.storage);
     show::step(b"9", four);
     let over = getmain(b"9: 8 bytes, unconditional", four, 8, 3, false);
-    show::areas(b"9", over.storage);
+    show::areas(b"9", over.all.storage);
     show::step(b"9", over);
 }

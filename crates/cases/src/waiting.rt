@@ -37,8 +37,8 @@ fn three() -> EcbList {
 }
 
 fn told(t: Tables) {
-    show::ecbs(b"10", t.events);
-    show::waiting(b"10", t.family);
+    show::ecbs(b"10", t.all.ecbs);
+    show::waiting(b"10", t.all.tasks);
 }
 
 // 10: one post is enough for who waits for two of three with one complete, and leaves no wait bit.

@@ -10,8 +10,8 @@ use Rattle.lists.specs.Loops.{yet-failed}
 use Rattle.kinds.specs.Limits.{doubleword}
 use Rattle.kinds.specs.declared.areas.Area.{Area}
 use Rattle.rules.specs.Storage.{permitted, placedAt, lowestFrom}
-use Rattle.rooms.proofs.Passed.{multiplesFrom, lowest-over}
-use Rattle.rooms.proofs.Searching.{Searching, Testing}
+use Rattle.mainstorage.proofs.Passed.{multiplesFrom, lowest-over}
+use Rattle.mainstorage.proofs.Searching.{Searching, Testing}
 
 module _ {l : List Area} {n : ℕ} {w : Area} {s : ℕ} {a : Area} {free : Bool} {j : ℕ} (h : Searching l n w s)
     (t : Testing l n w s a free j) where

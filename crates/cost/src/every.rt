@@ -1,5 +1,5 @@
 // The search of every multiple of 8, which is timed beside the one that GETMAIN makes and used nowhere else. What it
-// promises is what `rooms::room::lowest` promises: the two always answer the same.
+// promises is what `mainstorage::room::lowest` promises: the two always answer the same.
 use kinds::Address;
 use kinds::Area;
 use kinds::MaybeAddress;
@@ -25,14 +25,14 @@ pub(crate) fn every_multiple(s: Storage, want: Area) -> MaybeAddress
             owner,
         };
         // What ends beyond the region here does so further up too.
-        if (Address::REGION as u64) < areas::end_of(a) {
+        if (Address::REGION as u64) < storage::areas::end_of(a) {
             return MaybeAddress::Nowhere;
         }
         let mut free = true;
         let mut j = 0;
         while (j < n) & free {
             let x = s.areas[j];
-            free = areas::apart(a, x);
+            free = storage::areas::apart(a, x);
             j += 1;
         }
         if free {

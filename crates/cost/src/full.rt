@@ -1,7 +1,6 @@
 // Full tables, sound tests of them and copies.
 use crate::numbers::address;
 use crate::numbers::task;
-use family::Family;
 use kinds::Address;
 use kinds::Area;
 use kinds::Condition;
@@ -11,8 +10,9 @@ use kinds::Slot;
 use kinds::Task;
 use kinds::TaskNumber;
 use queue::Queue;
-use services::Tables;
 use storage::Storage;
+use tables::AllTables;
+use tasks::TaskTable;
 ghost use Prim.Native.Nat.{_≤_};
 
 // Of every task.
@@ -22,8 +22,8 @@ const PRIORITY: u8 = Task::HIGHEST_PRIORITY as u8;
 const LENGTH: u16 = Name::LONGEST as u16;
 
 // Every task place taken, by daughters of task 1.
-fn full_family() -> Family {
-    let mut f = family::empty();
+fn full_family() -> TaskTable {
+    let mut f = tasks::empty();
     let mut i: usize = 0;
     while i < TaskNumber::PLACES {
         let mother = if i == 0 { 0 } else { 1 };
@@ -82,18 +82,18 @@ fn full_storage() -> Storage {
     s
 }
 
-fn full_tables() -> Tables {
-    let family = full_family();
-    let queue = full_queue();
-    let storage = full_storage();
-    let events = events::empty();
-    Tables {
+fn full_tables() -> AllTables {
+    let f = full_family();
+    let q = full_queue();
+    let e = ecbs::empty();
+    let s = full_storage();
+    AllTables {
         over: false,
         code: 0,
-        family,
-        queue,
-        events,
-        storage,
+        tasks: f,
+        queue: q,
+        ecbs: e,
+        storage: s,
     }
 }
 
@@ -106,7 +106,7 @@ pub(crate) fn tests(n: u32) -> u32
     let mut i: u32 = 0;
     while i < n {
         t.code = (i % 2) as u16;
-        hits += one_if(t.sound());
+        hits += one_if(tables::sound::sound(t));
         i += 1;
     }
     hits

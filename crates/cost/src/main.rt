@@ -60,7 +60,8 @@ fn search(what: Search, all: u32) {
     let n = layouts::number_of(letter(2));
     let layout = layouts::layout_of(letter(3), n);
     let s = layouts::laid(n, layout);
-    let answers = searches::repeated(what, all, s, layout.bytes);
+    let t = tables::put_storage(tables::over_with(0), s);
+    let answers = searches::repeated(what, all, t, layout.bytes);
     say(answers.found, all);
     let last = answers.last;
     say_place(last);

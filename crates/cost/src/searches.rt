@@ -6,7 +6,7 @@ use kinds::Address;
 use kinds::Area;
 use kinds::MaybeAddress;
 use kinds::Reply;
-use storage::Storage;
+use tables::AllTables;
 ghost use Prim.Native.Nat.{_≤_};
 ghost use Rattle.kinds.specs.Limits.{region, doubleword};
 
@@ -46,11 +46,16 @@ fn place_in(reply: Reply, x: Area) -> MaybeAddress {
 // n searches for `most` bytes or for up to 7 less by turns, which are rounded up to as many: what is asked for is made
 // anew each time, so that one search can't serve for all. They are made here, since a call in between would copy the
 // table.
-pub(crate) fn repeated(search: Search, n: u32, s: Storage, most: u32) -> Answers
+pub(crate) fn repeated(search: Search, n: u32, t: AllTables, most: u32) -> Answers
     requires { ⌜ (doubleword ≤ most) × (most ≤ region) ⌝ }
 {
     let mut found: u32 = 0;
     let mut last = MaybeAddress::Nowhere;
+    let q = t.queue;
+    if !queue::packed(q) {
+        return Answers { found, last };
+    }
+    let s = t.storage;
     if !storage::packed(s) {
         return Answers { found, last };
     }
@@ -58,18 +63,19 @@ pub(crate) fn repeated(search: Search, n: u32, s: Storage, most: u32) -> Answers
     let mut i: u32 = 0;
     while i < n {
         let bytes = most - i % Address::DOUBLEWORD;
-        let want = rooms::asked::area_at(Address(0), bytes, ASKED, caller);
+        let want = mainstorage::asked::area_at(Address(0), bytes, ASKED, caller);
         match search {
             Search::Body => {
-                let stored = rooms::getmain::got(s, caller, bytes, ASKED, true);
-                let reply = stored.reply;
+                let made = mainstorage::getmain::served(t, caller, bytes, ASKED, true);
+                let reply = made.reply;
                 // Of the storage too something is looked at, at another place each time, so that all of it is made.
-                let after = stored.storage;
+                let all = made.tables;
+                let after = all.storage;
                 let x = after.areas[i as usize % Area::PLACES];
                 last = place_in(reply, x);
             }
             Search::Lowest => {
-                last = rooms::room::lowest(s, want);
+                last = mainstorage::room::lowest(s, want);
             }
             Search::Every => {
                 last = every::every_multiple(s, want);

@@ -1,43 +1,28 @@
 -- No second result fits the contract of a public function, whoever wrote it.
 use mathlib.Core.Path.{sym, _∙_}
 use Rattle.lists.specs.Promise.{Once}
-use Rattle.events.proofs.empty.Reads as empty
-use Rattle.events.proofs.at.Reads as at
-use Rattle.events.proofs.word.Reads as word
-use Rattle.events.proofs.ecbs_fit.Reads as ecbs-fit
-use Rattle.events.proofs.words_good.Reads as words-good
-use Rattle.events.proofs.all_zero.Reads as all-zero
-use Rattle.events.proofs.with_ecb.Reads as with-ecb
-use Rattle.events.proofs.completed.Reads as completed
-use Rattle.events.proofs.unwaited_all.Reads as unwaited-all
-use Rattle.events.proofs.waited_on.Reads as waited-on
+use Rattle.tables.proofs.Bodies.{made-once}
+use Rattle.events.proofs.clear.served.Reads as clear-served
+use Rattle.events.proofs.ecb_list.complete_of.Reads as complete-of
+use Rattle.events.proofs.ecb_list.wait_verdict.Reads as wait-verdict
+use Rattle.events.proofs.ecb_list.wait_set.Reads as wait-set
+use Rattle.events.proofs.post.served.Reads as post-served
+use Rattle.events.proofs.wait.served.Reads as wait-served
 
-pub empty-once : Once empty.Post
-empty-once k a x y e d p q = p ∙ sym q
+pub clear-served-once : Once clear-served.Post
+clear-served-once k a x y e d p q = made-once x y (p ∙ sym q)
 
-pub at-once : Once at.Post
-at-once k a x y e d p q = p ∙ sym q
+pub complete-of-once : Once complete-of.Post
+complete-of-once k a x y e d p q = p ∙ sym q
 
-pub word-once : Once word.Post
-word-once k a x y e d p q = p ∙ sym q
+pub wait-verdict-once : Once wait-verdict.Post
+wait-verdict-once k a x y e d p q = p ∙ sym q
 
-pub ecbs-fit-once : Once ecbs-fit.Post
-ecbs-fit-once k a x y e d p q = p ∙ sym q
+pub wait-set-once : Once wait-set.Post
+wait-set-once k a x y e d p q = p ∙ sym q
 
-pub words-good-once : Once words-good.Post
-words-good-once k a x y e d p q = p ∙ sym q
+pub post-served-once : Once post-served.Post
+post-served-once k a x y e d p q = made-once x y (p ∙ sym q)
 
-pub all-zero-once : Once all-zero.Post
-all-zero-once k a x y e d p q = p ∙ sym q
-
-pub with-ecb-once : Once with-ecb.Post
-with-ecb-once k a x y e d p q = p ∙ sym q
-
-pub completed-once : Once completed.Post
-completed-once k a x y e d p q = p ∙ sym q
-
-pub unwaited-all-once : Once unwaited-all.Post
-unwaited-all-once k a x y e d p q = p ∙ sym q
-
-pub waited-on-once : Once waited-on.Post
-waited-on-once k a x y e d p q = p ∙ sym q
+pub wait-served-once : Once wait-served.Post
+wait-served-once k a x y e d p q = made-once x y (p ∙ sym q)

@@ -1,3 +1,1 @@
-pub mod Blocks
-pub mod Counts
-pub mod Words
+pub mod Waits

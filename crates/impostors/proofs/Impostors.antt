@@ -42,7 +42,7 @@ nobody-waits [] = refl
 nobody-waits (x ∷ ts) = rw (let-go (x .condition)) (nobody-waits ts)
 
 abbrev somebodyWaits : Served Tables → Bool
-somebodyWaits o = some waiting (o .outcome .tables .family .places)
+somebodyWaits o = some waiting (o .outcome .tables .all .tasks .places)
 
 -- 2 asks for what task 1 owns
 abbrev enq-by-2 : Given
@@ -70,14 +70,14 @@ pub copying-caught : (f : Service) → Caught (copiesBack f)
 unfolding tables-open
 copying-caught f =
     caught (copiesBack f) (on start (enq 1 None 0 (exc x ∷ []))) refl
-    (λ o. eqb (o .outcome .tables .queue .count) 0) refl refl
+    (λ o. eqb (o .outcome .tables .all .queue .count) 0) refl refl
 
 -- 2 has to wait
 pub granting-caught-at-enq : (f : Service) → Caught (grantsAtOnce f)
 unfolding tables-open
 granting-caught-at-enq f =
     caught (grantsAtOnce f) enq-by-2 refl (λ o. not (somebodyWaits o))
-    (ap not (nobody-waits (f enq-by-2 .answer .tables .family .places))) refl
+    (ap not (nobody-waits (f enq-by-2 .answer .tables .all .tasks .places))) refl
 
 -- 2 waits, and has to go on when task 1 gives x back
 pub granting-caught-at-deq : (f : Service) → Caught (grantsAtOnce f)

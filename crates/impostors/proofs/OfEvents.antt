@@ -1,201 +1,172 @@
--- Wrong answers that the contracts of `events` rule out.
-use Prim.Native.Nat.{ℕ, _+_, _-_, _*_}
-use mathlib.Core.Path.{refl}
-use mathlib.Core.Bool.{false, not, cond, _&&_, _||_}
-use mathlib.Core.List.{List, [], _∷_, map}
-use native.Mathlib.Omega.{arith}
+-- Wrong answers that the contracts of `events`, of its three services, rule out. Those of a list are in OfEventsList.
+use Prim.Native.Nat.{ℕ, _-_}
+use mathlib.Core.Path.{_≡_, refl}
+use mathlib.Core.Bool.{Bool, true, false, not, _||_}
+use mathlib.Core.List.{[], _∷_}
 use lib.Dec.{eqb, leb}
-use lib.ListN.{length, getD, set, take, replicate}
+use lib.ListN.{set}
 use Rattle.lists.specs.Pick.{pick}
-use Rattle.lists.specs.Lists.{every, howMany}
-use Rattle.kinds.specs.Limits.{highestTask, highestEcb, allEcbs, highestEndCode, highestPostCode}
-use Rattle.kinds.specs.Ranges.{endCodeGood, postCodeGood}
-use Rattle.kinds.specs.Ecbs.{noEcb}
-use Rattle.kinds.specs.declared.ecbs.Ecb.{Ecb}
-use Rattle.rules.specs.Events.{ecbAt, waitBit, withWaiter, completed as completedOf}
-use Rattle.rules.specs.SoundEcbs.{zeroEcb}
-use Rattle.events.specs.Blocks.{eventsOf, noEvents, tallyFrom, tallyOf}
-use Rattle.events.specs.declared.Events.{Events}
-use Rattle.events.proofs.empty.Reads as empty
-use Rattle.events.proofs.at.Reads as at
-use Rattle.events.proofs.word.Reads as word
-use Rattle.events.proofs.ecbs_fit.Reads as ecbs-fit
-use Rattle.events.proofs.words_good.Reads as words-good
-use Rattle.events.proofs.all_zero.Reads as all-zero
-use Rattle.events.proofs.with_ecb.Reads as with-ecb
-use Rattle.events.proofs.completed.Reads as completed
-use Rattle.events.proofs.unwaited_all.Reads as unwaited-all
-use Rattle.events.proofs.waited_on.Reads as waited-on
-use Rattle.impostors.specs.Fitting.{_⊗_, fits-Ecb, fits-EcbNumber, fits-Events, fits-TaskNumber, fits-end}
+use Rattle.lists.specs.Lists.{mapAt}
+use Rattle.kinds.specs.Ranges.{ecbGood}
+use Rattle.kinds.specs.Tasks.{isReady, inEcbWait, withCondition}
+use Rattle.kinds.specs.declared.ecbs.EcbList.{EcbList}
+use Rattle.kinds.specs.declared.numbers.EcbNumber.{EcbNumber}
+use Rattle.kinds.specs.declared.numbers.TaskNumber.{TaskNumber}
+use Rattle.kinds.specs.declared.tasks.Condition.the-variants.{EcbWait}
+use Rattle.kinds.specs.declared.replies.Refusal.the-variants.{OutOfRange}
+use Rattle.kinds.specs.declared.replies.Verdict.{Verdict}
+use Rattle.rules.specs.Alike.{sameCondition}
+use Rattle.rules.specs.Family.{place, withPlace, conditionOf}
+use Rattle.rules.specs.Events.{ecbAt, waitBit, posted}
+use Rattle.rules.specs.Tests.{refuse, firstOf}
+use Rattle.rules.specs.Steps.{Step, Outcome, withTasks, withEcbs, done}
+use Rattle.rules.specs.Wait.{waitVerdict, completeOf, waitSet, waitDone}
+use Rattle.rules.specs.Post.{postVerdict, postDone}
+use Rattle.rules.specs.Clear.{clearVerdict, clearDone}
+use Rattle.history.specs.Samples.{start}
+use Rattle.ecbs.specs.Blocks.{ecbsIn}
+use Rattle.tables.specs.Tables.{stepOf, tablesOf, Packed, Admitted, soundTables}
+use Rattle.tables.specs.declared.AllTables.{AllTables}
+use Rattle.tables.specs.declared.made.Made.{Made}
+use Rattle.tables.proofs.Admits.{sound-packed}
+use Rattle.events.proofs.wait.served.Reads as wait-served
+use Rattle.events.proofs.post.served.Reads as post-served
+use Rattle.events.proofs.clear.served.Reads as clear-served
+use Rattle.impostors.specs.Fitting.{_⊗_, fits-AllTables, fits-EcbList, fits-EcbNumber, fits-TaskNumber, fits-end}
 use Rattle.impostors.specs.Fitting.{fits-u32}
 use Rattle.impostors.specs.Opened.{tables-open}
-use Rattle.impostors.specs.Wrong.{RuledOut, wrong-at, told-apart}
-use Rattle.impostors.specs.Samples.{task, ecb}
-use Rattle.impostors.specs.Parts.{events, awaited}
+use Rattle.impostors.specs.Wrong.{RuledOut, wrong-at}
+use Rattle.impostors.specs.Samples.{task, ecb, ecbsOf, after, daughter, post, waitedOn}
+use Rattle.impostors.specs.Answers.{but}
+use Rattle.impostors.specs.Parts.{goes, making}
 
--- ECB 63 alone is complete, with code 7
-abbrev lastComplete : Events
-lastComplete = eventsOf (set noEvents highestEcb (completedOf 7))
+-- SAMPLES: task 1 and its daughter 2; ECB 0 is complete, with code 7
+abbrev oneComplete : Step
+oneComplete = after start (daughter 1 ∷ post 1 0 7 ∷ [])
 
--- task 1 waits on each
-pub empty-awaited-by-task-1 : RuledOut (λ k. fits-end) empty.Pre empty.Post
-    (λ k a. eventsOf (replicate allEcbs (awaited 1)))
+-- 2 waits on ECB 3
+abbrev oneWaits : Step
+oneWaits = after start waitedOn
+
+task-2 : Admitted (tablesOf oneComplete) (task 2)
 unfolding tables-open
-empty-awaited-by-task-1 = wrong-at tt tt refl tt (λ e. waitBit (ecbAt (e .ecbs) 0)) refl refl
+task-2 = record { sound = refl; gate = refl }
 
--- each is complete, with code 0
-pub empty-all-complete : RuledOut (λ k. fits-end) empty.Pre empty.Post
-    (λ k a. eventsOf (replicate allEcbs (completedOf 0)))
+packed : (s : Step) → soundTables (tablesOf s) ≡ true → Packed (tablesOf s)
+packed s h = sound-packed (tablesOf s) h
+
+fresh-packed : Packed (tablesOf start)
 unfolding tables-open
-empty-all-complete = wrong-at tt tt refl tt (λ e. ecbAt (e .ecbs) 0 .complete) refl refl
+fresh-packed = packed start refl
 
--- ECB n is looked up at place n - 1, as a task is: ECB 1 is complete, and ECB 0 comes back
-pub at-one-place-before : RuledOut (λ k. fits-Events ⊗ fits-EcbNumber ⊗ fits-end) at.Pre at.Post
-    (λ k a. ecbAt (a .0 .ecbs) (a .1 .0 .0 - 1))
+complete-packed : Packed (tablesOf oneComplete)
 unfolding tables-open
-at-one-place-before =
-    wrong-at tt (events (noEcb ∷ completedOf 7 ∷ []), (ecb 1, tt)) refl tt (λ x. not (x .complete)) refl refl
+complete-packed = packed oneComplete refl
 
--- a number that has no ECB is taken for ECB 63
-pub at-64-is-ecb-63 : RuledOut (λ k. fits-Events ⊗ fits-EcbNumber ⊗ fits-end) at.Pre at.Post
-    (λ k a. ecbAt (a .0 .ecbs) (pick (leb (a .1 .0 .0) highestEcb) (a .1 .0 .0) highestEcb))
+waits-packed : Packed (tablesOf oneWaits)
 unfolding tables-open
-at-64-is-ecb-63 = wrong-at tt (lastComplete, (ecb 64, tt)) refl tt (λ x. x .complete) refl refl
+waits-packed = packed oneWaits refl
 
--- bits 0 and 1 are exchanged: a complete ECB shows as waited on
-pub word-bits-exchanged : RuledOut (λ k. fits-Ecb ⊗ fits-end) word.Pre word.Post
-    (λ k a. cond (waitBit (a .0)) (highestPostCode + 1) 0 +
-    (cond (a .0 .complete) (2 * (highestPostCode + 1)) 0 + a .0 .code))
+-- WAIT: with c of the listed ECBs complete and a count n, the caller goes on, or waits for so many posts
+abbrev Waits : Type 0
+Waits = AllTables × (TaskNumber × (EcbList × (ℕ × Unit {0})))
+
+abbrev fits-Waits : Waits → Bool
+fits-Waits = fits-AllTables ⊗ fits-TaskNumber ⊗ fits-EcbList ⊗ fits-u32 ⊗ fits-end
+
+abbrev waitBy : Waits → (Step → Outcome Step) → Made
+waitBy a f =
+    making (waitVerdict (a .0 .ecbs .ecbs) (ecbsIn (a .1 .1 .0)) (a .1 .1 .1 .0)) (a .0) (f (stepOf (a .0)))
+
+abbrev waiting : Waits → (ℕ → ℕ → Bool) → (ℕ → ℕ → ℕ) → Step → Outcome Step
+waiting a goesOn posts s =
+    let n = a .1 .1 .1 .0 in
+    let w = a .1 .0 .0 in
+    let c = completeOf (s .ecbs) (ecbsIn (a .1 .1 .0)) in
+    pick (goesOn c n) (done s)
+    (done (withEcbs
+    (withTasks s (withPlace (s .tasks) w (withCondition (place (s .tasks) w) (EcbWait (posts c n)))))
+    (mapAt (waitSet w (ecbsIn (a .1 .1 .0))) 0 (s .ecbs))))
+
+-- task 2 waits for n of ECBs 0, 1 and 2, of which ECB 0 is complete
+abbrev waitFor : ℕ → Waits
+waitFor n = (tablesOf oneComplete, (task 2, (ecbsOf (0 ∷ 1 ∷ 2 ∷ []), (n, tt))))
+
+-- it waits for as many posts as the count says, 2, and not for the one that is missing
+pub wait-served-for-the-whole-count : RuledOut (λ k. fits-Waits) wait-served.Pre wait-served.Post
+    (λ k a. waitBy a (waiting a (λ c n. leb n c) (λ c n. n)))
 unfolding tables-open
-word-bits-exchanged = wrong-at tt (completedOf 7, tt) refl tt (eqb 0x8000_0007) refl refl
+wait-served-for-the-whole-count =
+    wrong-at tt (waitFor 2) refl task-2
+    (λ o. sameCondition (conditionOf (o .outcome .tables .tasks .places) 2) (EcbWait 2)) refl refl
 
--- bit 0 is taken for the lowest: code 7, complete, gives 30
-pub word-bit-0-lowest : RuledOut (λ k. fits-Ecb ⊗ fits-end) word.Pre word.Post
-    (λ k a. cond (waitBit (a .0)) 1 0 + (cond (a .0 .complete) 2 0 + 4 * (a .0 .code)))
+-- one complete ECB is enough: it goes on, with a count of 2
+pub wait-served-goes-on-with-too-few : RuledOut (λ k. fits-Waits) wait-served.Pre wait-served.Post
+    (λ k a. waitBy a (waiting a (λ c n. leb n c || leb 1 c) (λ c n. n - c)))
 unfolding tables-open
-word-bit-0-lowest = wrong-at tt (completedOf 7, tt) refl tt (eqb 30) refl refl
+wait-served-goes-on-with-too-few =
+    wrong-at tt (waitFor 2) refl task-2 (λ o. isReady (conditionOf (o .outcome .tables .tasks .places) 2)) refl refl
 
--- the highest number is taken for the count: 64 ECBs do not fit
-pub ecbs-fit-when-63 : RuledOut (λ k. fits-Events ⊗ fits-end) ecbs-fit.Pre ecbs-fit.Post
-    (λ k a. eqb (length (a .0 .ecbs)) highestEcb)
+-- the wait bits are set although it goes on: with a count of 1, ECB 1 is waited on
+pub wait-served-bits-without-a-wait : RuledOut (λ k. fits-Waits) wait-served.Pre wait-served.Post
+    (λ k a. waitBy a (λ s.
+    but (waitDone s (a .1 .0) (ecbsIn (a .1 .1 .0)) (a .1 .1 .1 .0))
+    (λ u. withEcbs u (mapAt (waitSet (a .1 .0 .0) (ecbsIn (a .1 .1 .0))) 0 (s .ecbs)))))
 unfolding tables-open
-ecbs-fit-when-63 = wrong-at tt (events [], tt) refl tt not refl refl
+wait-served-bits-without-a-wait =
+    wrong-at tt (waitFor 1) refl task-2 (λ o. waitBit (ecbAt (o .outcome .tables .ecbs .ecbs) 1)) refl refl
 
--- only complete ECBs are counted: none, and not 64
-pub ecbs-fit-counts-the-complete : RuledOut (λ k. fits-Events ⊗ fits-end) ecbs-fit.Pre ecbs-fit.Post
-    (λ k a. eqb (howMany (λ (e : Ecb). e .complete) (a .0 .ecbs)) allEcbs)
+-- POST
+abbrev Posts : Type 0
+Posts = AllTables × (EcbNumber × (ℕ × Unit {0}))
+
+abbrev fits-Posts : Posts → Bool
+fits-Posts = fits-AllTables ⊗ fits-EcbNumber ⊗ fits-u32 ⊗ fits-end
+
+-- only the ECB's number is tested
+abbrev numberGood : EcbNumber → Verdict
+numberGood e = firstOf (refuse OutOfRange (not (ecbGood (e .0))) ∷ [])
+
+-- code 1,073,741,824 goes through
+pub post-served-any-code : RuledOut (λ k. fits-Posts) post-served.Pre post-served.Post
+    (λ k a. making (numberGood (a .1 .0)) (a .0) (postDone (stepOf (a .0)) (a .1 .0) (a .1 .1 .0)))
 unfolding tables-open
-ecbs-fit-counts-the-complete = record {
-  lifetimes = tt;
-  given = (events [], tt);
-  fitting = refl;
-  asked = tt;
-  broken = λ e p. told-apart p not refl refl;
-}
+post-served-any-code =
+    wrong-at tt (tablesOf start, (ecb 0, (0x4000_0000, tt))) refl fresh-packed (λ o. goes (o .verdict)) refl refl
 
--- an incomplete ECB may have a code
-pub words-good-incomplete-with-a-code : RuledOut (λ k. fits-Events ⊗ fits-end) words-good.Pre words-good.Post
-    (λ k a. every (λ (x : Ecb). not (waitBit x && x .complete) && postCodeGood (x .code)) (a .0 .ecbs))
+-- the waiter is not looked at: ECB 3 is complete, and 2 still waits for it
+abbrev nobodyWakes : Step → ℕ → ℕ → Outcome Step
+nobodyWakes s n code = done (withTasks (posted s n code) (s .tasks))
+
+pub post-served-nobody-wakes : RuledOut (λ k. fits-Posts) post-served.Pre post-served.Post
+    (λ k a. making (postVerdict (a .1 .0) (a .1 .1 .0)) (a .0) (nobodyWakes (stepOf (a .0)) (a .1 .0 .0) (a .1 .1 .0)))
 unfolding tables-open
-words-good-incomplete-with-a-code =
-    wrong-at tt (events (record { waiter = task 0; complete = false; code = 7 } ∷ []), tt) refl tt (λ b. b) refl refl
+post-served-nobody-wakes =
+    wrong-at tt (tablesOf oneWaits, (ecb 3, (9, tt))) refl waits-packed
+    (λ o. inEcbWait (conditionOf (o .outcome .tables .tasks .places) 2)) refl refl
 
--- an ECB may be waited on and complete
-pub words-good-waited-on-and-complete : RuledOut (λ k. fits-Events ⊗ fits-end) words-good.Pre words-good.Post
-    (λ k a. every (λ (x : Ecb). (x .complete || eqb (x .code) 0) && postCodeGood (x .code)) (a .0 .ecbs))
+-- CLEAR
+abbrev Clears : Type 0
+Clears = AllTables × (EcbNumber × Unit {0})
+
+abbrev fits-Clears : Clears → Bool
+fits-Clears = fits-AllTables ⊗ fits-EcbNumber ⊗ fits-end
+
+-- 109 is not tested: an ECB that is waited on is cleared
+pub clear-served-without-109 : RuledOut (λ k. fits-Clears) clear-served.Pre clear-served.Post
+    (λ k a. making (numberGood (a .1 .0)) (a .0) (clearDone (stepOf (a .0)) (a .1 .0)))
 unfolding tables-open
-words-good-waited-on-and-complete =
-    wrong-at tt (events (withWaiter (completedOf 7) 2 ∷ []), tt) refl tt (λ b. b) refl refl
+clear-served-without-109 =
+    wrong-at tt (tablesOf oneWaits, (ecb 3, tt)) refl waits-packed (λ o. goes (o .verdict)) refl refl
 
--- a complete ECB may have any code
-pub words-good-any-code : RuledOut (λ k. fits-Events ⊗ fits-end) words-good.Pre words-good.Post
-    (λ k a. every (λ (x : Ecb). not (waitBit x && x .complete) && (x .complete || eqb (x .code) 0)) (a .0 .ecbs))
+-- the bits go and the code stays: 7
+abbrev codeStays : Step → ℕ → Outcome Step
+codeStays s n =
+    done (withEcbs s (set (s .ecbs) n (record { waiter = task 0; complete = false; code = ecbAt (s .ecbs) n .code })))
+
+pub clear-served-but-its-code : RuledOut (λ k. fits-Clears) clear-served.Pre clear-served.Post
+    (λ k a. making (clearVerdict (a .0 .ecbs .ecbs) (a .1 .0)) (a .0) (codeStays (stepOf (a .0)) (a .1 .0 .0)))
 unfolding tables-open
-words-good-any-code = wrong-at tt (events (completedOf 0x4000_0000 ∷ []), tt) refl tt (λ b. b) refl refl
-
--- the wait bit is not looked at: task 2 waits on ECB 0
-pub all-zero-although-waited-on : RuledOut (λ k. fits-Events ⊗ fits-end) all-zero.Pre all-zero.Post
-    (λ k a. every (λ (x : Ecb). not (x .complete) && eqb (x .code) 0) (a .0 .ecbs))
-unfolding tables-open
-all-zero-although-waited-on = wrong-at tt (events (awaited 2 ∷ []), tt) refl tt (λ b. b) refl refl
-
--- ECB 63 is not looked at
-pub all-zero-but-ecb-63 : RuledOut (λ k. fits-Events ⊗ fits-end) all-zero.Pre all-zero.Post
-    (λ k a. every zeroEcb (take highestEcb (a .0 .ecbs)))
-unfolding tables-open
-all-zero-but-ecb-63 = wrong-at tt (lastComplete, tt) refl tt (λ b. b) refl refl
-
--- x stands one place before, where a task would: ECB 1 stays zero
-pub with-ecb-one-before : RuledOut (λ k. fits-Events ⊗ fits-EcbNumber ⊗ fits-Ecb ⊗ fits-end) with-ecb.Pre with-ecb.Post
-    (λ k a. eventsOf (set (a .0 .ecbs) (a .1 .0 .0 - 1) (a .1 .1 .0)))
-unfolding tables-open
-with-ecb-one-before =
-    wrong-at tt (events [], (ecb 1, (completedOf 7, tt))) refl (omega arith) (λ e. not (ecbAt (e .ecbs) 1 .complete))
-    refl refl
-
--- a complete ECB stays as it is, here too: ECB 1 is not cleared
-pub with-ecb-not-when-complete :
-    RuledOut (λ k. fits-Events ⊗ fits-EcbNumber ⊗ fits-Ecb ⊗ fits-end) with-ecb.Pre with-ecb.Post
-    (λ k a. pick (ecbAt (a .0 .ecbs) (a .1 .0 .0) .complete) (a .0)
-    (eventsOf (set (a .0 .ecbs) (a .1 .0 .0) (a .1 .1 .0))))
-unfolding tables-open
-with-ecb-not-when-complete =
-    wrong-at tt (events (noEcb ∷ completedOf 7 ∷ []), (ecb 1, (noEcb, tt))) refl (omega arith)
-    (λ e. ecbAt (e .ecbs) 1 .complete) refl refl
-
--- a post of code 0 leaves it incomplete
-pub completed-not-by-code-0 : RuledOut (λ k. fits-u32 ⊗ fits-end) completed.Pre completed.Post
-    (λ k a. record { waiter = task 0; complete = not (eqb (a .0) 0); code = a .0 })
-unfolding tables-open
-completed-not-by-code-0 = wrong-at tt (0, tt) refl tt (λ x. not (x .complete)) refl refl
-
--- its code is held to 4,095, the highest of END
-pub completed-held-to-4095 : RuledOut (λ k. fits-u32 ⊗ fits-end) completed.Pre completed.Post
-    (λ k a. completedOf (pick (endCodeGood (a .0)) (a .0) highestEndCode))
-unfolding tables-open
-completed-held-to-4095 = wrong-at tt (5000, tt) refl tt (λ x. eqb (x .code) 4095) refl refl
-
--- every wait bit is off: that of task 3, where 2 no longer waits
-pub unwaited-all-of-everybody :
-    RuledOut (λ k. fits-Events ⊗ fits-TaskNumber ⊗ fits-end) unwaited-all.Pre unwaited-all.Post
-    (λ k a. eventsOf (map (λ (x : Ecb). withWaiter x 0) (a .0 .ecbs)))
-unfolding tables-open
-unwaited-all-of-everybody =
-    wrong-at tt (events (awaited 2 ∷ awaited 3 ∷ []), (task 2, tt)) refl tt (λ e. not (waitBit (ecbAt (e .ecbs) 1)))
-    refl refl
-
--- only the first that task w set is off
-abbrev firstOff : ℕ → List Ecb → List Ecb
-firstOff w [] = []
-firstOff w (x ∷ l) = pick (eqb (x .waiter .0) w) (withWaiter x 0 ∷ l) (x ∷ firstOff w l)
-
-pub unwaited-all-only-the-first :
-    RuledOut (λ k. fits-Events ⊗ fits-TaskNumber ⊗ fits-end) unwaited-all.Pre unwaited-all.Post
-    (λ k a. eventsOf (firstOff (a .1 .0 .0) (a .0 .ecbs)))
-unfolding tables-open
-unwaited-all-only-the-first =
-    wrong-at tt (events (awaited 2 ∷ awaited 2 ∷ []), (task 2, tt)) refl tt (λ e. waitBit (ecbAt (e .ecbs) 1)) refl refl
-
--- task 1's count stands first, as if there were no number 0: 2, which waits on an ECB, has none
-pub waited-on-from-task-1 : RuledOut (λ k. fits-Events ⊗ fits-end) waited-on.Pre waited-on.Post
-    (λ k a. record { ecbs = tallyFrom (highestTask + 1) 1 (a .0 .ecbs) })
-unfolding tables-open
-waited-on-from-task-1 = record {
-  lifetimes = tt;
-  given = (events (awaited 2 ∷ []), tt);
-  fitting = refl;
-  asked = tt;
-  broken = λ e p. told-apart p (λ t. eqb (getD (t .ecbs) 2 0) 0) refl refl;
-}
-
--- a task that waits on two ECBs counts one
-pub waited-on-counted-once : RuledOut (λ k. fits-Events ⊗ fits-end) waited-on.Pre waited-on.Post
-    (λ k a. record { ecbs = map (λ n. cond (leb n 1) n 1) (tallyOf (a .0 .ecbs) .ecbs) })
-unfolding tables-open
-waited-on-counted-once = record {
-  lifetimes = tt;
-  given = (events (awaited 2 ∷ awaited 2 ∷ []), tt);
-  fitting = refl;
-  asked = tt;
-  broken = λ e p. told-apart p (λ t. eqb (getD (t .ecbs) 2 0) 1) refl refl;
-}
+clear-served-but-its-code =
+    wrong-at tt (tablesOf oneComplete, (ecb 0, tt)) refl complete-packed
+    (λ o. eqb (ecbAt (o .outcome .tables .ecbs .ecbs) 0 .code) 7) refl refl

@@ -2,15 +2,21 @@
 use Prim.Native.Nat.{ℕ, _+_, _-_, _%_}
 use mathlib.Core.Path.{_≡_, refl}
 use mathlib.Core.Bool.{Bool, true, false, not, cond, _&&_, _||_}
+use mathlib.Core.List.{map}
 use lib.Dec.{eqb, leb, ltb}
 use lib.IntN.{pos, negℤ}
+use lib.ListN.{replicate}
 use lib.Signed.{leZ, ltZ}
+use Rattle.lists.specs.Lists.{every}
+use Rattle.kinds.specs.Beside.{noNames, noEcbs}
 use Rattle.kinds.specs.Limits.{jobStepTask, highestTask, highestEcb, highestAddress, region, doubleword}
 use Rattle.kinds.specs.Limits.{highestPriority}
 use Rattle.kinds.specs.Limits.{highestEndCode, highestPostCode, longestList, longestMinor, highestSubpool}
 use Rattle.kinds.specs.Ranges.{between, taskChecked, ecbChecked}
 use Rattle.kinds.specs.Replies.{faultNumber, numberOf, besidesIn, besidesOf}
 use Rattle.kinds.specs.Tasks.{isFree, isLive, isReady, inResourceWait, inEcbWait, waits, withCondition}
+use Rattle.kinds.specs.declared.names.Wanted.{Wanted}
+use Rattle.kinds.specs.declared.numbers.EcbNumber.{EcbNumber}
 use Rattle.kinds.specs.declared.numbers.TaskChecked.{TaskChecked}
 use Rattle.kinds.specs.declared.numbers.TaskChecked.the-variants.{GoodTask, BadTask}
 use Rattle.kinds.specs.declared.numbers.EcbChecked.{EcbChecked}
@@ -31,8 +37,10 @@ use Rattle.kinds.proofs.areas.Area.length_good.Reads as Area-length-good
 use Rattle.kinds.proofs.areas.Area.subpool_good.Reads as Area-subpool-good
 use Rattle.kinds.proofs.ecbs.Ecb.zero.Reads as Ecb-zero
 use Rattle.kinds.proofs.ecbs.Ecb.code_good.Reads as Ecb-code-good
+use Rattle.kinds.proofs.ecbs.EcbList.none.Reads as EcbList-none
 use Rattle.kinds.proofs.names.Name.minor_good.Reads as Name-minor-good
 use Rattle.kinds.proofs.names.NameList.count_good.Reads as NameList-count-good
+use Rattle.kinds.proofs.names.NameList.none.Reads as NameList-none
 use Rattle.kinds.proofs.numbers.TaskNumber.is_good.Reads as TaskNumber-is-good
 use Rattle.kinds.proofs.numbers.TaskNumber.new.Reads as TaskNumber-new
 use Rattle.kinds.proofs.numbers.EcbNumber.is_good.Reads as EcbNumber-is-good
@@ -138,6 +146,17 @@ pub Ecb-code-good-one-above-passes : RuledOut (λ k. fits-u32 ⊗ fits-end) Ecb-
     (λ k a. leb (a .0) (highestPostCode + 1))
 Ecb-code-good-one-above-passes = passes 1073741824 refl refl refl
 
+-- an ECB stands beside the request: ECB 0
+pub EcbList-none-of-one-ecb : RuledOut (λ k. fits-end) EcbList-none.Pre EcbList-none.Post
+    (λ k a. record { count = 1; ecbs = noEcbs .ecbs })
+EcbList-none-of-one-ecb = wrong-at tt tt refl tt (λ l. eqb (l .count) 1) refl refl
+
+-- the unused places are not zero: each names the last ECB
+pub EcbList-none-with-the-last-ecb : RuledOut (λ k. fits-end) EcbList-none.Pre EcbList-none.Post
+    (λ k a. record { count = 0; ecbs = replicate longestList (ecb highestEcb) })
+EcbList-none-with-the-last-ecb =
+    wrong-at tt tt refl tt (λ l. every (λ (e : EcbNumber). eqb (e .0) 63) (l .ecbs)) refl refl
+
 -- NAMES
 
 -- an empty minor part passes
@@ -178,6 +197,20 @@ pub NameList-count-good-one-above-passes :
     (λ k a. between 1 (longestList + 1) (a .0))
 unfolding tables-open
 NameList-count-good-one-above-passes = passes 17 refl refl refl
+
+-- a name stands beside the request: eight bytes of zero, with no minor part
+pub NameList-none-of-one-name : RuledOut (λ k. fits-end) NameList-none.Pre NameList-none.Post
+    (λ k a. record { count = 1; names = noNames .names })
+NameList-none-of-one-name = wrong-at tt tt refl tt (λ l. eqb (l .count) 1) refl refl
+
+-- the unused places ask for exclusive control
+abbrev exclusive : Wanted → Wanted
+exclusive w = record { exclusive = true; name = w .name }
+
+pub NameList-none-asks-exclusive : RuledOut (λ k. fits-end) NameList-none.Pre NameList-none.Post
+    (λ k a. record { count = 0; names = map exclusive (noNames .names) })
+NameList-none-asks-exclusive =
+    wrong-at tt tt refl tt (λ l. every (λ (w : Wanted). w .exclusive) (l .names)) refl refl
 
 -- NUMBERS
 

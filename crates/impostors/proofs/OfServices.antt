@@ -36,7 +36,7 @@ use Rattle.kinds.specs.declared.replies.Verdict.{Verdict}
 use Rattle.kinds.specs.declared.replies.Gate.{Gate}
 use Rattle.kinds.specs.declared.replies.Gate.the-variants.{Open, Shut}
 use Rattle.names.specs.Named.{namesIn}
-use Rattle.events.specs.Blocks.{ecbsIn}
+use Rattle.ecbs.specs.Blocks.{ecbsIn}
 use Rattle.rules.specs.Names.{Resource, Ask, Names, sameName, namesOf as resources}
 use Rattle.rules.specs.Control.{Entry}
 use Rattle.rules.specs.Rings.{waitsFor, leadsBy, tasksQueued, stuck as stuckOf}
@@ -73,7 +73,8 @@ use Rattle.rules.specs.Sound.{soundStep}
 use Rattle.rules.specs.Fresh.{freshStep}
 use Rattle.rules.specs.Serve.{serviceOf}
 use Rattle.history.specs.Samples.{start, x, y}
-use Rattle.services.specs.Kept.{stepOf, tablesOf, withClaims, soundb, answered, answeredWith, saidWith}
+use Rattle.tables.specs.Tables.{putQueue}
+use Rattle.services.specs.Kept.{inTables, stepOf, tablesOf, soundb, answered, answeredWith, saidWith}
 use Rattle.services.specs.declared.Tables.{Tables}
 use Rattle.services.specs.declared.Answer.{Answer}
 use Rattle.services.proofs.Tables.sound.Reads as sound
@@ -105,7 +106,7 @@ use Rattle.impostors.specs.Samples.{ringOfTwo, behindAnother, sharedAhea
 use Rattle.impostors.specs.Parts.{lent, address, lastBest, incomplete}
 use Rattle.impostors.specs.Impostors.{byService}
 use Rattle.impostors.specs.Answers.{answerOf, answering, but, butServed, retelling, coding, reporting}
-use Rattle.impostors.proofs.OfSoundness.{Given, judged as soundBy, lengthsOnly}
+use Rattle.impostors.proofs.OfTablesSound.{judged as soundBy, lengthsOnly}
 use Rattle.impostors.specs.Verdicts.{Judge, keepingOff, never110, firstOnly, twoBytes, inMinorToo, byName}
 use Rattle.impostors.specs.Verdicts.{unlessTest, after104, before101, deqKeepingOff, enqJudged, deqJudged}
 use Rattle.impostors.specs.Haves.{Doing, allOrNothing, skippedQueued, skipsNothing, lastFirst}
@@ -118,10 +119,10 @@ tables l = tablesOf (after start l)
 
 -- task n is in a resource wait; is ready
 abbrev waits : ℕ → Tables → Bool
-waits n t = inResourceWait (conditionOf (t .family .places) n)
+waits n t = inResourceWait (conditionOf (t .all .tasks .places) n)
 
 abbrev runs : ℕ → Tables → Bool
-runs n t = isReady (conditionOf (t .family .places) n)
+runs n t = isReady (conditionOf (t .all .tasks .places) n)
 
 -- WHAT IS GIVEN to the services of many parameters, and that it fits
 abbrev Attaches : Type 0
@@ -166,12 +167,12 @@ pub sound-behind-the-count : RuledOut (λ k. fits-Tables ⊗ fits-end) sound.Pre
 unfolding tables-open
 sound-behind-the-count =
     wrong-at tt
-    (withClaims (tablesOf start) (tables owned .family) (record { slots = tables owned .queue .slots; count = 0 }), tt)
+    (inTables (putQueue (tables owned .all) (record { slots = tables owned .all .queue .slots; count = 0 })), tt)
     refl tt (λ b. b) refl refl
 
 -- of a step that is over only the code is looked at: it has tasks
 pub sound-over-with-tasks : RuledOut (λ k. fits-Tables ⊗ fits-end) sound.Pre sound.Post
-    (λ k a. cond (a .0 .over) (endCodeGood (a .0 .code)) (soundb (a .0)))
+    (λ k a. cond (a .0 .all .over) (endCodeGood (a .0 .all .code)) (soundb (a .0)))
 unfolding tables-open
 sound-over-with-tasks =
     wrong-at tt
@@ -179,11 +180,9 @@ sound-over-with-tasks =
     refl tt (λ b. b) refl refl
 
 -- an entry may be for a system name: of names only the lengths are looked at
-abbrev partsOf : Tables → Given
-partsOf t = (t .over, (t .code, (t .family, (t .queue, (t .events, (t .storage, tt))))))
 
 pub sound-with-a-system-name : RuledOut (λ k. fits-Tables ⊗ fits-end) sound.Pre sound.Post
-    (λ k a. soundBy lengthsOnly (partsOf (a .0)))
+    (λ k a. soundBy lengthsOnly (a .0 .all, tt))
 unfolding tables-open
 sound-with-a-system-name =
     wrong-at tt (tablesOf (withQueue start (entryFor 1 (exc sysdsn) ∷ [])), tt) refl tt (λ b. b) refl refl
@@ -246,7 +245,7 @@ pub attach-heeds-lpmod : Heeds (λ k. fits-Attaches) attach.Pre attach.Post
 unfolding tables-open
 attach-heeds-lpmod =
     heeds tt (with-lpmod 30) (with-lpmod 0) refl refl tt tt
-    (λ o. eqb (place (o .tables .family .places) 2 .limit) 170) refl refl
+    (λ o. eqb (place (o .tables .all .tasks .places) 2 .limit) 170) refl refl
 
 -- the number of the new task is told as an address: 2
 pub attach-answers-an-address : RuledOut (λ k. fits-Attaches) attach.Pre attach.Post
@@ -280,7 +279,8 @@ pub detach-leaves-the-entries :
     (λ k a. answering (a .0) (λ s. but (detachOf s (a .1 .0) (a .1 .1 .0)) (λ u. withQueue u (s .queue))))
 unfolding tables-open
 detach-leaves-the-entries =
-    wrong-at tt (tables daughterOwns, (task 1, (task 2, tt))) refl tt (λ o. eqb (o .tables .queue .count) 1) refl refl
+    wrong-at tt (tables daughterOwns, (task 1, (task 2, tt))) refl tt (λ o. eqb (o .tables .all .queue .count) 1) refl
+    refl
 
 -- END
 
@@ -297,7 +297,7 @@ pub end-posts-nothing : RuledOut (λ k. fits-Tables ⊗ fits-TaskNumber ⊗ fits
 unfolding tables-open
 end-posts-nothing =
     wrong-at tt (tables withEcb, (task 2, (7, tt))) refl tt
-    (λ o. not (ecbAt (o .tables .events .ecbs) 0 .complete)) refl refl
+    (λ o. not (ecbAt (o .tables .all .ecbs .ecbs) 0 .complete)) refl refl
 
 -- ABEND
 
@@ -307,7 +307,7 @@ unfolding tables-open
 abend-heeds-step =
     heeds tt (tables oneDaughter, (task 2, (0, (true, tt)))) (tables oneDaughter, (task 2, (0, (false, tt)))) refl refl
     tt tt
-    (λ o. o .tables .over) refl refl
+    (λ o. o .tables .all .over) refl refl
 
 -- the caller ends alone: 3, the daughter of 2, stays
 abbrev abendAlone : Step → TaskNumber → ℕ → Bool → Outcome Step
@@ -321,7 +321,7 @@ pub abend-leaves-the-daughters :
 unfolding tables-open
 abend-leaves-the-daughters =
     wrong-at tt (tables twoGenerations, (task 2, (0, (false, tt)))) refl tt
-    (λ o. not (isFree (conditionOf (o .tables .family .places) 3))) refl refl
+    (λ o. not (isFree (conditionOf (o .tables .all .tasks .places) 3))) refl refl
 
 -- ENQ
 
@@ -362,7 +362,8 @@ asking ret l area = (tablesOf start, (task 1, (ret, (namesOf l, (lent area, tt))
 pub enq-no-110 : RuledOutWith (λ k. fits-Coded fits-Ret) enq.Pre enq.Post (λ k a. enqBy (keepingOff never110) a)
 unfolding tables-open
 enq-no-110 =
-    wrong-with ([], tt) (asking None (exc sysdsn ∷ []) []) refl tt (λ o. eqb (o .outcome .tables .queue .count) 1) refl
+    wrong-with ([], tt) (asking None (exc sysdsn ∷ []) []) refl tt
+    (λ o. eqb (o .outcome .tables .all .queue .count) 1) refl
     refl
 
 -- TEST for a system name, with no codes area, is 104
@@ -420,7 +421,7 @@ asksMixed =
 
 -- so many entries are queued
 abbrev many : ℕ → Served Tables → Bool
-many n o = eqb (o .outcome .tables .queue .count) n
+many n o = eqb (o .outcome .tables .all .queue .count) n
 
 -- the entry behind n others
 abbrev entryBehind : ℕ → Served Tables → Entry
@@ -557,7 +558,7 @@ pub post-replaces-the-code :
 unfolding tables-open
 post-replaces-the-code =
     wrong-at tt (tables postedOnce, (task 1, (ecb 3, (7, tt)))) refl tt
-    (λ o. eqb (ecbAt (o .tables .events .ecbs) 3 .code) 7) refl refl
+    (λ o. eqb (ecbAt (o .tables .all .ecbs .ecbs) 3 .code) 7) refl refl
 
 -- no task goes on: 2 waits for ECB 3
 abbrev postsTo : Step → TaskNumber → EcbNumber → ℕ → Outcome Step
@@ -599,7 +600,7 @@ pub clear-leaves-the-word :
     (λ k a. answering (a .0) (λ s. but (clearOf s (a .1 .0) (a .1 .1 .0)) (λ u. withEcbs u (s .ecbs))))
 unfolding tables-open
 clear-leaves-the-word =
-    wrong-at tt (tables postedOnce, (task 1, (ecb 3, tt))) refl tt (λ o. ecbAt (o .tables .events .ecbs) 3 .complete)
+    wrong-at tt (tables postedOnce, (task 1, (ecb 3, tt))) refl tt (λ o. ecbAt (o .tables .all .ecbs .ecbs) 3 .complete)
     refl refl
 
 -- GETMAIN
@@ -663,7 +664,7 @@ pub freemain-leaves-the-area : RuledOut (λ k. fits-Frees) freemain.Pre freemain
 unfolding tables-open
 freemain-leaves-the-area =
     wrong-at tt (tables oneArea, (task 1, (address 0, (100, (10, tt))))) refl tt
-    (λ o. eqb (o .tables .storage .count) 1) refl refl
+    (λ o. eqb (o .tables .all .storage .count) 1) refl refl
 
 -- SERVE
 
@@ -677,7 +678,7 @@ pub serve-loses-the-code : RuledOutWith (λ k. fits-Serves) serve.Pre serve.Post
 unfolding tables-open
 serve-loses-the-code =
     wrong-with ([], tt) (tables withEcb, (End (task 2) 7, (namesOf [], (ecbsOf [], (lent [], tt))))) refl tt
-    (λ o. eqb (ecbAt (o .outcome .tables .events .ecbs) 0 .code) 0) refl refl
+    (λ o. eqb (ecbAt (o .outcome .tables .all .ecbs .ecbs) 0 .code) 0) refl refl
 
 -- no code is ever written: TEST of a name that is available is to write 0
 abbrev uncoded : Step → Request → Names → Ecbs → List ℕ → Served Step

@@ -21,8 +21,7 @@ use Rattle.storage.proofs.empty.Reads as empty
 use Rattle.storage.proofs.packed.Reads as packed
 use Rattle.storage.proofs.areas_fit.Reads as areas-fit
 use Rattle.storage.proofs.shapes_good.Reads as shapes-good
-use Rattle.storage.proofs.areas_rise.Reads as areas-rise
-use Rattle.storage.proofs.areas_apart.Reads as areas-apart
+use Rattle.storage.proofs.areas_in_order.Reads as areas-in-order
 use Rattle.storage.proofs.insert.Reads as insert
 use Rattle.storage.proofs.has_area.Reads as has-area
 use Rattle.storage.proofs.without.Reads as without
@@ -113,37 +112,43 @@ pub shapes-good-of-unused-places : RuledOut (λ k. fits-Storage ⊗ fits-end) sh
 unfolding tables-open
 shapes-good-of-unused-places = wrong-at tt (storedAreas (one ∷ []), tt) refl (omega arith) not refl refl
 
--- two areas may start at one address
-pub areas-rise-or-are-level :
-    RuledOut (λ k. fits-Storage ⊗ fits-end) areas-rise.Pre areas-rise.Post
-    (λ k a. pairwise (λ (x : Area) (y : Area). leb (startOf x) (startOf y)) (areasIn (a .0)))
+-- two areas may start at one address, here one of no bytes and one of 8
+pub areas-in-order-or-level : RuledOut (λ k. fits-Storage ⊗ fits-end) areas-in-order.Pre areas-in-order.Post
+    (λ k a. pairwise (λ (x : Area) (y : Area). leb (startOf x) (startOf y)) (areasIn (a .0))
+    && areasApart (areasIn (a .0)))
 unfolding tables-open
-areas-rise-or-are-level = wrong-at tt (storedAreas (one ∷ long ∷ []), tt) refl (omega arith) (λ b. b) refl refl
+areas-in-order-or-level =
+    wrong-at tt (storedAreas (area 0 0 5 1 ∷ one ∷ []), tt) refl (omega arith) (λ b. b) refl refl
 
--- the first area is not looked at: it stands above the second
-pub areas-rise-but-the-first : RuledOut (λ k. fits-Storage ⊗ fits-end) areas-rise.Pre areas-rise.Post
-    (λ k a. areasRise (drop 1 (areasIn (a .0))))
+-- whether they rise is not asked of the first area, which stands above the second
+pub areas-in-order-rising-but-the-first :
+    RuledOut (λ k. fits-Storage ⊗ fits-end) areas-in-order.Pre areas-in-order.Post
+    (λ k a. areasRise (drop 1 (areasIn (a .0))) && areasApart (areasIn (a .0)))
 unfolding tables-open
-areas-rise-but-the-first = wrong-at tt (storedAreas (two ∷ one ∷ three ∷ []), tt) refl (omega arith) (λ b. b) refl refl
+areas-in-order-rising-but-the-first =
+    wrong-at tt (storedAreas (two ∷ one ∷ three ∷ []), tt) refl (omega arith) (λ b. b) refl refl
 
 -- only bytes are judged: tasks 1 and 2 on one page
-pub areas-apart-on-one-page : RuledOut (λ k. fits-Storage ⊗ fits-end) areas-apart.Pre areas-apart.Post
-    (λ k a. pairwise bytesApart (areasIn (a .0)))
+pub areas-in-order-on-one-page : RuledOut (λ k. fits-Storage ⊗ fits-end) areas-in-order.Pre areas-in-order.Post
+    (λ k a. areasRise (areasIn (a .0)) && pairwise bytesApart (areasIn (a .0)))
 unfolding tables-open
-areas-apart-on-one-page = wrong-at tt (storedAreas (one ∷ area 8 8 5 2 ∷ []), tt) refl (omega arith) (λ b. b) refl refl
+areas-in-order-on-one-page =
+    wrong-at tt (storedAreas (one ∷ area 8 8 5 2 ∷ []), tt) refl (omega arith) (λ b. b) refl refl
 
 -- an area is compared with itself too, and meets itself
-pub areas-apart-from-themselves :
-    RuledOut (λ k. fits-Storage ⊗ fits-end) areas-apart.Pre areas-apart.Post
-    (λ k a. every (λ (x : Area). every (apart x) (areasIn (a .0))) (areasIn (a .0)))
+pub areas-in-order-apart-from-themselves :
+    RuledOut (λ k. fits-Storage ⊗ fits-end) areas-in-order.Pre areas-in-order.Post
+    (λ k a. areasRise (areasIn (a .0)) && every (λ (x : Area). every (apart x) (areasIn (a .0))) (areasIn (a .0)))
 unfolding tables-open
-areas-apart-from-themselves = wrong-at tt (storedAreas (one ∷ []), tt) refl (omega arith) not refl refl
+areas-in-order-apart-from-themselves = wrong-at tt (storedAreas (one ∷ []), tt) refl (omega arith) not refl refl
 
--- the first area is not looked at: it meets the second
-pub areas-apart-but-the-first : RuledOut (λ k. fits-Storage ⊗ fits-end) areas-apart.Pre areas-apart.Post
-    (λ k a. areasApart (drop 1 (areasIn (a .0))))
+-- whether they are apart is not asked of the first area, which meets the second
+pub areas-in-order-apart-but-the-first :
+    RuledOut (λ k. fits-Storage ⊗ fits-end) areas-in-order.Pre areas-in-order.Post
+    (λ k a. areasRise (areasIn (a .0)) && areasApart (drop 1 (areasIn (a .0))))
 unfolding tables-open
-areas-apart-but-the-first = wrong-at tt (storedAreas (long ∷ two ∷ []), tt) refl (omega arith) (λ b. b) refl refl
+areas-in-order-apart-but-the-first =
+    wrong-at tt (storedAreas (long ∷ two ∷ []), tt) refl (omega arith) (λ b. b) refl refl
 
 -- it goes behind all others, and one at 0 behind one at 8
 pub insert-at-the-end : RuledOut (λ k. fits-Storage ⊗ fits-Area ⊗ fits-end) insert.Pre insert.Post

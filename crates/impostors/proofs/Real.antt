@@ -17,7 +17,8 @@ use Rattle.laws.specs.Served.{service-of-sound}
 use Rattle.history.specs.Samples.{start}
 use Rattle.services.specs.Kept.{tablesOf, servedBy}
 use Rattle.services.specs.declared.Answer.{Answer}
-use Rattle.services.proofs.Leaves.{step-tables, sound-kept}
+use Rattle.tables.proofs.Admits.{step-tables}
+use Rattle.services.proofs.Leaves.{sound-kept}
 use Rattle.services.proofs.Serves.{sound-serves}
 use Rattle.services.proofs.Tables.fresh.Reads as fresh
 use Rattle.services.proofs.Tables.serve.Reads as serve

@@ -24,7 +24,7 @@ use Rattle.impostors.specs.Samples.{behindFour, bothAsked, postedOnce, o
 
 -- task n is in a resource wait
 abbrev waits : ℕ → Tables → Bool
-waits n t = inResourceWait (conditionOf (t .family .places) n)
+waits n t = inResourceWait (conditionOf (t .all .tasks .places) n)
 
 -- What is answered is computed first, without the other service; antt then need not carry that along.
 
@@ -71,7 +71,7 @@ first-grant-caught f =
 
 -- ECB 3 is complete with 5, and is posted with 7: its code stays 5
 abbrev has-7 : Served Tables → Bool
-has-7 o = eqb (ecbAt (o .outcome .tables .events .ecbs) 3 .code) 7
+has-7 o = eqb (ecbAt (o .outcome .tables .all .ecbs .ecbs) 3 .code) 7
 
 replaced : has-7 (doing (on (after start postedOnce) (post 1 3 7)) (replacing (post 1 3 7) 3)) ≡ true
 unfolding tables-open
@@ -93,7 +93,7 @@ pub reusing-nothing-caught : (f : Service) → Caught (reusesNothing f)
 unfolding tables-open
 reusing-nothing-caught f =
     caught (reusesNothing f) (on (after start oneArea) (freemain 1 0 100 10)) refl
-    (λ o. not (eqb (o .outcome .tables .storage .count) 0)) refl refl
+    (λ o. not (eqb (o .outcome .tables .all .storage .count) 0)) refl refl
 
 pub slips-caught : SlipsCaught
 slips-caught = record {

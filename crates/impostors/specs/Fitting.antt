@@ -34,14 +34,15 @@ use Rattle.kinds.specs.declared.replies.Fault.{Fault}
 use Rattle.kinds.specs.declared.replies.Reply.{Reply}
 use Rattle.kinds.specs.declared.replies.Reply.the-variants.{Done, Attached, Got, Dispatched, Counted, Four, Refused}
 use Rattle.kinds.specs.declared.replies.Reply.the-variants.{Failed}
-use Rattle.family.specs.declared.Family.{Family}
+use Rattle.kinds.specs.declared.replies.Verdict.{Verdict}
+use Rattle.tasks.specs.declared.TaskTable.{TaskTable}
 use Rattle.queue.specs.declared.Queue.{Queue}
 use Rattle.queue.specs.declared.marks.Marks.{Marks}
-use Rattle.flags.specs.declared.Flags.{Flags}
-use Rattle.asks.specs.declared.codes.Codes.{Codes}
-use Rattle.events.specs.declared.Events.{Events}
+use Rattle.queue.specs.declared.looks.Flags.{Flags}
+use Rattle.resources.specs.declared.codes.Codes.{Codes}
+use Rattle.ecbs.specs.declared.EcbTable.{EcbTable}
 use Rattle.storage.specs.declared.Storage.{Storage}
-use Rattle.endings.specs.declared.Whole.{Whole}
+use Rattle.tables.specs.declared.AllTables.{AllTables}
 use Rattle.services.specs.declared.Tables.{Tables}
 
 -- NUMBERS AND ARRAYS
@@ -139,6 +140,9 @@ fits-Reply Four = true
 fits-Reply (Refused why) = true
 fits-Reply (Failed what) = true
 
+abbrev pub fits-Verdict : Verdict → Bool
+fits-Verdict v = true
+
 abbrev pub fits-Request : Request → Bool
 fits-Request (Attach c lpmod dpmod e) = (fits-TaskNumber c && fits-u16 lpmod) && (fits-i16 dpmod && fits-MaybeEcb e)
 fits-Request (Detach c task) = fits-TaskNumber c && fits-TaskNumber task
@@ -156,8 +160,8 @@ fits-Request Dispatch = true
 
 -- TABLES
 
-abbrev pub fits-Family : Family → Bool
-fits-Family f = array highestTask fits-Task (f .places)
+abbrev pub fits-TaskTable : TaskTable → Bool
+fits-TaskTable f = array highestTask fits-Task (f .places)
 
 abbrev pub fits-Queue : Queue → Bool
 fits-Queue q = array mostEntries fits-Slot (q .slots) && fits-usize (q .count)
@@ -171,21 +175,19 @@ fits-Flags f = array longestList fits-bool (f .of)
 abbrev pub fits-Codes : Codes → Bool
 fits-Codes k = array longestList fits-u8 (k .bytes)
 
-abbrev pub fits-Events : Events → Bool
-fits-Events e = array allEcbs fits-Ecb (e .ecbs)
+abbrev pub fits-EcbTable : EcbTable → Bool
+fits-EcbTable e = array allEcbs fits-Ecb (e .ecbs)
 
 abbrev pub fits-Storage : Storage → Bool
 fits-Storage s = array mostAreas fits-Area (s .areas) && fits-usize (s .count)
 
-abbrev pub fits-Whole : Whole → Bool
-fits-Whole w =
-    (fits-u16 (w .code) && fits-Family (w .family))
-    && (fits-Queue (w .queue) && (fits-Events (w .events) && fits-Storage (w .storage)))
+abbrev pub fits-AllTables : AllTables → Bool
+fits-AllTables t =
+    (fits-u16 (t .code) && fits-TaskTable (t .tasks))
+    && (fits-Queue (t .queue) && (fits-EcbTable (t .ecbs) && fits-Storage (t .storage)))
 
 abbrev pub fits-Tables : Tables → Bool
-fits-Tables t =
-    (fits-u16 (t .code) && fits-Family (t .family))
-    && (fits-Queue (t .queue) && (fits-Events (t .events) && fits-Storage (t .storage)))
+fits-Tables t = fits-AllTables (t .all)
 
 -- PARAMETERS, one after the other; none is left
 infixr 60 _⊗_

@@ -20,8 +20,9 @@ use Rattle.kinds.specs.declared.replies.Refusal.{Refusal}
 use Rattle.kinds.specs.declared.replies.Reply.the-variants.{Refused}
 use Rattle.rules.specs.Steps.{Step, Served}
 use Rattle.rules.specs.ResourceWaits.{letGo}
-use Rattle.family.specs.Families.{familyOf}
-use Rattle.services.specs.Kept.{tablesOf, withFamily, saidWith}
+use Rattle.tasks.specs.TaskTables.{taskTableOf}
+use Rattle.tables.specs.Tables.{putTasks}
+use Rattle.services.specs.Kept.{inTables, tablesOf, saidWith}
 use Rattle.services.specs.Serve.{servedOf}
 use Rattle.services.specs.declared.Tables.{Tables}
 use Rattle.services.specs.declared.Answer.{Answer}
@@ -132,8 +133,9 @@ allGo ts = map (λ (x : Task). withCondition x (letGo (x .condition))) ts
 abbrev pub grantsAtOnce : Service → Service
 grantsAtOnce f g =
     byService (f g) (f g) (λ c code. f g)
-    (back (f g) (withFamily (f g .answer .tables) (familyOf (allGo (f g .answer .tables .family .places)))))
-    (back (f g) (withFamily (f g .answer .tables) (g .tables .family)))
+    (back (f g)
+    (inTables (putTasks (f g .answer .tables .all) (taskTableOf (allGo (f g .answer .tables .all .tasks .places))))))
+    (back (f g) (inTables (putTasks (f g .answer .tables .all) (g .tables .all .tasks))))
     (λ e. f g) (λ c bytes subpool conditional. f g) (f g) (g .asking .request)
 
 -- none of them meets the contract of `serve`

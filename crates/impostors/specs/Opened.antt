@@ -10,22 +10,24 @@ use Rattle.names.specs.Named.{shown}
 use Rattle.queue.specs.Queues.{isFine, isZero, allFine, restZero, packedEntries}
 use Rattle.queue.specs.Marking.{markedBy, withMark}
 use Rattle.rings.specs.Listings.{reportReply, reportWritten}
-use Rattle.flags.specs.Flagging.{flagsOf, someSet, allSet}
-use Rattle.asks.specs.Coding.{codesOf, nonzero}
-use Rattle.events.specs.Blocks.{tallyFrom}
-use Rattle.ecbwaits.specs.Waits.{waitedBy}
+use Rattle.queue.specs.Flagging.{flagsOf, allSetBut}
+use Rattle.ecbs.specs.Blocks.{tallyFrom}
+use Rattle.events.specs.Waits.{waitedBy}
 use Rattle.storage.specs.Stored.{isZero as isZeroArea, restZero as restZeroAreas, packedAreas}
-use Rattle.rooms.specs.Bars.{barOf, nextAt}
-use Rattle.rooms.specs.Found.{placeFor}
-use Rattle.locks.specs.Waiting.{wakeIf}
-use Rattle.signals.specs.Posts.{signalsOf}
-use Rattle.signals.specs.Served.{waitedIn}
-use Rattle.services.specs.Kept.{soundb, answered, answeredWith}
+use Rattle.mainstorage.specs.Bars.{barOf, nextAt}
+use Rattle.mainstorage.specs.Found.{placeFor}
+use Rattle.between.specs.Waiting.{wakeIf}
+use Rattle.between.specs.Posts.{signalsOf}
+use Rattle.tables.specs.Tables.{soundTables}
+use Rattle.tables.specs.Bodies.{told, bodyOf}
+use Rattle.resources.specs.Coding.{codesOf}
+use Rattle.resources.specs.Looking.{looksOf}
+use Rattle.services.specs.Kept.{answered, answeredWith}
 use Rattle.services.specs.Serve.{servedOf}
 
 unfoldable pub tables-open : Unit {0}
 unfolding rules-open onceFrom padded taskChecked ecbChecked addressChecked wakeAt wipeAt shown isFine isZero allFine
-    restZero packedEntries markedBy withMark reportReply reportWritten flagsOf someSet allSet codesOf nonzero
-    tallyFrom waitedBy isZeroArea restZeroAreas packedAreas barOf nextAt placeFor wakeIf signalsOf waitedIn soundb
-    answered answeredWith servedOf
+    restZero packedEntries markedBy withMark reportReply reportWritten flagsOf allSetBut tallyFrom
+    waitedBy isZeroArea restZeroAreas packedAreas barOf nextAt placeFor wakeIf codesOf looksOf signalsOf soundTables
+    told bodyOf answered answeredWith servedOf
 tables-open = tt

@@ -10,6 +10,13 @@ use Rattle.kinds.specs.Limits.{highestTask, allEcbs}
 use Rattle.kinds.specs.Ecbs.{noEcb}
 use Rattle.kinds.specs.Tasks.{noTask, isReady}
 use Rattle.kinds.specs.Replies.{refusalNumber, faultNumber}
+use Rattle.kinds.specs.Replies.{replyOf}
+use Rattle.kinds.specs.declared.replies.Reply.the-variants.{Done}
+use Rattle.rules.specs.Steps.{Step, Outcome}
+use Rattle.rules.specs.Admission.{onGo}
+use Rattle.tables.specs.Tables.{tablesOf}
+use Rattle.tables.specs.declared.AllTables.{AllTables}
+use Rattle.tables.specs.declared.made.Made.{Made}
 use Rattle.kinds.specs.declared.numbers.Address.{Address}
 use Rattle.kinds.specs.declared.areas.Area.{Area}
 use Rattle.kinds.specs.declared.ecbs.Ecb.{Ecb}
@@ -26,10 +33,10 @@ use Rattle.rules.specs.Dispatch.{noBetter}
 use Rattle.rules.specs.Storage.{firstPage, pastPage, bytesApart, oneHolder}
 use Rattle.rules.specs.Table.{exc, rowOf}
 use Rattle.history.specs.Samples.{x}
-use Rattle.family.specs.Families.{familyOf}
-use Rattle.family.specs.declared.Family.{Family}
-use Rattle.events.specs.Blocks.{eventsOf}
-use Rattle.events.specs.declared.Events.{Events}
+use Rattle.tasks.specs.TaskTables.{taskTableOf}
+use Rattle.tasks.specs.declared.TaskTable.{TaskTable}
+use Rattle.ecbs.specs.Blocks.{ecbTableOf}
+use Rattle.ecbs.specs.declared.EcbTable.{EcbTable}
 use Rattle.impostors.specs.Samples.{task, ecb}
 
 -- bytes that are lent
@@ -53,8 +60,8 @@ abbrev pub ownerAndWaiter : List Entry
 ownerAndWaiter = entryFor 1 (exc x) ∷ entryFor 2 (exc x) ∷ []
 
 -- TASKS 1, 2 and so on, the other places free
-abbrev pub family : List Task → Family
-family l = familyOf (padded highestTask noTask l)
+abbrev pub family : List Task → TaskTable
+family l = taskTableOf (padded highestTask noTask l)
 
 -- a task 200/150 of this mother, in this condition and with this ECB
 abbrev pub under : ℕ → Condition → MaybeEcb → Task
@@ -87,8 +94,8 @@ abbrev pub lastBest : List Task → ℕ
 lastBest ts = lastFrom ts 1 0 ts
 
 -- ECBS 0, 1 and so on, the others zero
-abbrev pub events : List Ecb → Events
-events l = eventsOf (padded allEcbs noEcb l)
+abbrev pub events : List Ecb → EcbTable
+events l = ecbTableOf (padded allEcbs noEcb l)
 
 -- task w waits on it
 abbrev pub awaited : ℕ → Ecb
@@ -102,3 +109,11 @@ incomplete e = record { waiter = e .waiter; complete = false; code = e .code }
 abbrev pub apartAtFirst : Area → Area → Bool
 apartAtFirst a b =
     bytesApart a b && (oneHolder a b || not (leb (firstPage b) (firstPage a) && ltb (firstPage a) (pastPage b)))
+
+-- WHAT A BODY MAKES of tables t by a verdict and an outcome, as its contract has it
+abbrev pub making : Verdict → AllTables → Outcome Step → Made
+making v t o = record {
+  verdict = v;
+  reply = onGo v (replyOf (o .number) (o .besides)) Done;
+  tables = onGo v (tablesOf (o .tables)) t;
+}

@@ -25,7 +25,7 @@ use Rattle.rules.specs.Steps.{Step, Served}
 use Rattle.rules.specs.Serve.{Asked, serviceOf}
 use Rattle.history.specs.Samples.{x, y}
 use Rattle.names.specs.Named.{kept, namesIn}
-use Rattle.events.specs.Blocks.{ecbsIn}
+use Rattle.ecbs.specs.Blocks.{ecbsIn}
 
 -- LISTS as a request brings them: 16 places, those past the count zero
 

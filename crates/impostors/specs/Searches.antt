@@ -4,8 +4,8 @@ use Prim.Native.Nat.{_+_, _*_}
 use Rattle.lists.specs.Pick.{pick}
 use Rattle.kinds.specs.Limits.{region, page}
 use Rattle.rules.specs.Storage.{startOf, pastEnd, pastPage, oneHolder}
-use Rattle.rooms.specs.Bars.{nextAt}
-use Rattle.rooms.specs.Jumping.{Jump}
+use Rattle.mainstorage.specs.Bars.{nextAt}
+use Rattle.mainstorage.specs.Jumping.{Jump}
 
 -- always past the last page
 abbrev pub toPages : Jump

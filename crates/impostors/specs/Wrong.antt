@@ -55,12 +55,13 @@ wrong-with k a t q test h n = record {
 }
 
 -- where the promise is of the result and of the area: a test tells the result apart, or the area
-module _ {K : Type 0} {A R E W : K → Type 0} {T : (k : K) → A k → Bool} {Q : (k : K) → A k → Type 0}
-    {f : (k : K) → A k → R k × E k} {d : (k : K) → A k → R k} {area : (k : K) → E k → W k} {w : (k : K) → A k → W k}
+module _ {K : Type 0} {A R E S W : K → Type 0} {T : (k : K) → A k → Bool} {Q : (k : K) → A k → Type 0}
+    {f : (k : K) → A k → R k × E k} {see : (k : K) → R k → S k} {d : (k : K) → A k → S k} {area : (k : K) → E k → W k}
+    {w : (k : K) → A k → W k}
   where
-    pub wrong-result : (k : K) (a : A k) → T k a ≡ true → Q k a → (test : R k → Bool) → test (f k a .0) ≡ true
+    pub wrong-result : (k : K) (a : A k) → T k a ≡ true → Q k a → (test : S k → Bool) → test (see k (f k a .0)) ≡ true
         → test (d k a) ≡ false
-        → RuledOutWith T Q (λ k a r e. (r ≡ d k a) × (area k e ≡ w k a)) f
+        → RuledOutWith T Q (λ k a r e. (see k r ≡ d k a) × (area k e ≡ w k a)) f
     wrong-result k a t q test h n = record {
       lifetimes = k;
       given = a;
@@ -71,7 +72,7 @@ module _ {K : Type 0} {A R E W : K → Type 0} {T : (k : K) → A k → Bool} {Q
 
     pub wrong-area : (k : K) (a : A k) → T k a ≡ true → Q k a → (test : W k → Bool) → test (area k (f k a .1)) ≡ true
         → test (w k a) ≡ false
-        → RuledOutWith T Q (λ k a r e. (r ≡ d k a) × (area k e ≡ w k a)) f
+        → RuledOutWith T Q (λ k a r e. (see k r ≡ d k a) × (area k e ≡ w k a)) f
     wrong-area k a t q test h n = record {
       lifetimes = k;
       given = a;

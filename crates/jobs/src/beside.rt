@@ -5,6 +5,7 @@ use crate::sizes::MOST_LISTED;
 use crate::word;
 use kinds::EcbList;
 use kinds::EcbNumber;
+use kinds::Name;
 use kinds::NameList;
 use kinds::Wanted;
 
@@ -28,14 +29,18 @@ struct Read {
 }
 
 pub(crate) fn no_names() -> NameList {
-    let name = name::zero();
-    let none = Wanted {
+    one_name(name::zero())
+}
+
+// A list that has this name and counts none.
+pub(crate) fn one_name(name: Name) -> NameList {
+    let w = Wanted {
         exclusive: false,
         name,
     };
     NameList {
         count: 0,
-        names: [none; NameList::MOST],
+        names: [w; NameList::MOST],
     }
 }
 

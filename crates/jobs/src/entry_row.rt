@@ -41,25 +41,22 @@ impl RawEntry {
         }
     }
 
-    pub(crate) fn with(self, field: EntryField, value: u32) -> RawEntry {
+    // A major or a minor part is that of the name.
+    pub(crate) fn with(self, field: EntryField, value: u32, name: Name) -> RawEntry {
         let mut r = self;
         match field {
             EntryField::Task => r.task = value,
             EntryField::Excl => r.excl = value,
             EntryField::Length => r.length = value,
+            EntryField::Major => {
+                let major = name.major;
+                r.major = major;
+            }
+            EntryField::Minor => {
+                let minor = name.minor;
+                r.minor = minor;
+            }
         }
-        r
-    }
-
-    pub(crate) fn with_major(self, major: [u8; Name::MAJOR]) -> RawEntry {
-        let mut r = self;
-        r.major = major;
-        r
-    }
-
-    pub(crate) fn with_minor(self, minor: [u8; Name::LONGEST]) -> RawEntry {
-        let mut r = self;
-        r.minor = minor;
         r
     }
 

@@ -3,6 +3,8 @@ use crate::fields;
 use crate::keys;
 use crate::number;
 use crate::plain;
+use crate::poke::Setting;
+use crate::poke_form;
 use crate::shows::Report;
 use crate::shows::Shows;
 use crate::sizes::LONGEST_LINE;
@@ -13,13 +15,11 @@ use kinds::Request;
 use kinds::Ret;
 use kinds::TaskNumber;
 
-// A list, and what a poke says, is left to be read from `at` on. In an ENQ each name has a mark.
+// A list, or the digits of a part of a name that is poked, is left to be read from `at` on. In an ENQ each name has a
+// mark.
 pub(crate) enum Form {
+    Nothing,
     Unreadable,
-    Fresh {
-        limit: u16,
-        dispatching: u16,
-    },
     Plain(Request),
     Names {
         request: Request,
@@ -32,25 +32,27 @@ pub(crate) enum Form {
         at: usize,
     },
     Show(Shows),
-    Poke {
+    Set(Setting),
+    Major {
+        place: u32,
+        at: usize,
+    },
+    Minor {
+        place: u32,
         at: usize,
     },
 }
 
 // An empty line, or a remark, asks for nothing.
-pub(crate) fn is_nothing(line: &[u8]) -> bool {
-    if LONGEST_LINE < line.len() {
-        return false;
-    }
-    if line.len() == 0 {
-        return true;
-    }
-    line[0] == b'#'
-}
-
 pub(crate) fn read(line: &[u8]) -> Form {
     if LONGEST_LINE < line.len() {
         return Form::Unreadable;
+    }
+    if line.len() == 0 {
+        return Form::Nothing;
+    }
+    if line[0] == b'#' {
+        return Form::Nothing;
     }
     let at = word::after(line, 0);
     let key = word::key(line, 0);
@@ -58,7 +60,7 @@ pub(crate) fn read(line: &[u8]) -> Form {
         keys::ENQ => with_names(line, at, true),
         keys::DEQ => with_names(line, at, false),
         keys::WAIT => with_ecbs(line, at),
-        keys::POKE => Form::Poke { at },
+        keys::POKE => poke_form::read(line, at),
         keys::FRESH => fresh(line, at),
         keys::DUMP => alone(line, at, Form::Show(Shows::Tables)),
         keys::STUCK => report(line, at, Report::Stuck),
@@ -87,7 +89,11 @@ fn fresh(line: &[u8], at: usize) -> Form {
     }
     let limit = number::half(n.value);
     let dispatching = number::half(m.value);
-    alone(line, m.next, Form::Fresh { limit, dispatching })
+    alone(
+        line,
+        m.next,
+        Form::Set(Setting::Fresh { limit, dispatching }),
+    )
 }
 
 // A report: the room of its list area.

@@ -110,7 +110,7 @@ fn longer(block: &mut [u8], kept: usize) -> Span
     while end <= LONGEST_LINE {
         let got = filled(block, end);
         if got.failed {
-            return cut();
+            return no_line();
         }
         let count = got.count;
         if count == 0 {
@@ -147,8 +147,8 @@ fn last(end: usize) -> Span
     }
 }
 
-// No line: what came of it before a read failed may be the front of another.
-fn cut() -> Span
+// No line yet, or none: what came of it before a read failed may be the front of another.
+pub(crate) fn no_line() -> Span
     ensures { λ r. ⌜ Within r ⌝ }
 {
     Span {
@@ -170,7 +170,7 @@ fn rest_of_long(block: &mut [u8]) -> Span
     while 0 < turns {
         let got = read_some(block);
         if got.failed {
-            return cut();
+            return no_line();
         }
         let end = got.count;
         if end == 0 {

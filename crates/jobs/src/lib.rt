@@ -15,7 +15,6 @@ mod lines;
 mod listing;
 mod name;
 mod number;
-mod outcome;
 mod plain;
 mod poke;
 mod poke_form;

@@ -10,38 +10,58 @@ use crate::lines::put_step;
 use crate::lines::put_task;
 use crate::raw::flag;
 use crate::sizes::BLOCK;
+use crate::sizes::MOST_CODES;
 use crate::task_row::RawTask;
 use crate::text::put;
 use crate::text::put_byte;
 use crate::text::put_bytes_hex;
 use crate::text::put_number;
-use events::Events;
-use family::Family;
+use ecbs::EcbTable;
 use kinds::Area;
 use kinds::EcbNumber;
+use kinds::Reply;
 use kinds::Slot;
 use kinds::TaskNumber;
 use queue::Queue;
 use services::Tables;
 use storage::Storage;
+use tasks::TaskTable;
+ghost use Prim.Native.Nat.{_≤_};
 ghost use Rattle.jobs.specs.Places.{Kept};
+ghost use Rattle.jobs.specs.Sizes.{mostCodes};
 
 // Every byte of a lent area before a request or a report.
 pub(crate) const UNWRITTEN: u8 = 0xee;
 
-pub(crate) fn answer(
-    out: &mut [u8; BLOCK],
-    at: usize,
-    number: u16,
-    besides: u32,
-    codes: &[u8],
-) -> usize
+// `NUMBER BESIDES`.
+pub(crate) fn answer(reply: Reply, out: &mut [u8; BLOCK], at: usize) -> usize
     ensures { λ r. ⌜ Kept at r ⌝ }
 {
-    let k = put_number(out, at, number as u32);
-    let k = put_field(out, k, besides);
-    let k = put_codes(out, k, codes);
+    let k = put_reply(reply, out, at);
     put_byte(out, k, b'\n')
+}
+
+// The same, and what was written of the codes area, which is `length` bytes of `codes`.
+pub(crate) fn answer_with(
+    reply: Reply,
+    codes: [u8; MOST_CODES],
+    length: usize,
+    out: &mut [u8; BLOCK],
+    at: usize,
+) -> usize
+    requires { ⌜ length ≤ mostCodes ⌝ }
+    ensures { λ r. ⌜ Kept at r ⌝ }
+{
+    let k = put_reply(reply, out, at);
+    let k = put_codes(out, k, &codes[..length]);
+    put_byte(out, k, b'\n')
+}
+
+fn put_reply(reply: Reply, out: &mut [u8; BLOCK], at: usize) -> usize
+    ensures { λ r. ⌜ Kept at r ⌝ }
+{
+    let k = put_number(out, at, reply.number() as u32);
+    put_field(out, k, reply.besides())
 }
 
 fn put_codes(out: &mut [u8; BLOCK], at: usize, codes: &[u8]) -> usize
@@ -68,11 +88,12 @@ fn any_written(codes: &[u8]) -> bool {
 pub(crate) fn dump(t: Tables, out: &mut [u8; BLOCK], at: usize) -> usize
     ensures { λ r. ⌜ Kept at r ⌝ }
 {
-    let f = t.family;
-    let q = t.queue;
-    let e = t.events;
-    let s = t.storage;
-    let k = put_step(out, at, flag(t.over), t.code as u32);
+    let a = t.all;
+    let f = a.tasks;
+    let q = a.queue;
+    let e = a.ecbs;
+    let s = a.storage;
+    let k = put_step(out, at, flag(a.over), a.code as u32);
     let k = put_tasks(f, out, k);
     let k = put_entries(q, out, k);
     let k = put_ecbs(e, out, k);
@@ -80,7 +101,7 @@ pub(crate) fn dump(t: Tables, out: &mut [u8; BLOCK], at: usize) -> usize
     put(out, k, b".\n")
 }
 
-fn put_tasks(f: Family, out: &mut [u8; BLOCK], at: usize) -> usize
+fn put_tasks(f: TaskTable, out: &mut [u8; BLOCK], at: usize) -> usize
     ensures { λ r. ⌜ Kept at r ⌝ }
 {
     let mut k = at;
@@ -106,7 +127,7 @@ fn put_entries(q: Queue, out: &mut [u8; BLOCK], at: usize) -> usize
     k
 }
 
-fn put_ecbs(e: Events, out: &mut [u8; BLOCK], at: usize) -> usize
+fn put_ecbs(e: EcbTable, out: &mut [u8; BLOCK], at: usize) -> usize
     ensures { λ r. ⌜ Kept at r ⌝ }
 {
     let mut k = at;

@@ -20,15 +20,15 @@ pub(crate) struct Named {
 }
 
 // A major part, if its digits are digits.
-pub(crate) struct Major {
-    pub(crate) good: bool,
-    pub(crate) bytes: [u8; Name::MAJOR],
+struct Major {
+    good: bool,
+    bytes: [u8; Name::MAJOR],
 }
 
 // The bytes of a minor part that a name keeps, if all of its digits are digits.
-pub(crate) struct Minor {
-    pub(crate) good: bool,
-    pub(crate) bytes: [u8; Name::LONGEST],
+struct Minor {
+    good: bool,
+    bytes: [u8; Name::LONGEST],
 }
 
 // A minor part's length, if it is one.
@@ -184,38 +184,40 @@ fn minor_of(line: &[u8], from: usize, end: usize, major: [u8; Name::MAJOR]) -> N
     }
 }
 
-// The last word of a line, as a major part.
-pub(crate) fn major_word(line: &[u8], at: usize) -> Major {
+// The last word of a line, as a major part; the rest of the name is zero.
+pub(crate) fn major_word(line: &[u8], at: usize) -> Named {
     if line.len() < at {
-        return no_major();
+        return none();
     }
     if line.len() - at != MAJOR_DIGITS {
-        return no_major();
+        return none();
     }
-    read_major(line, at)
-}
-
-fn no_major() -> Major {
-    Major {
-        good: false,
-        bytes: [0u8; Name::MAJOR],
+    let m = read_major(line, at);
+    let bytes = m.bytes;
+    let mut name = zero();
+    name.major = bytes;
+    Named {
+        good: m.good,
+        name,
+        next: 0,
     }
 }
 
 // The last word of a line, as a whole minor part.
-pub(crate) fn minor_word(line: &[u8], at: usize) -> Minor {
+pub(crate) fn minor_word(line: &[u8], at: usize) -> Named {
     if line.len() < at {
-        return no_minor();
+        return none();
     }
     if line.len() - at != MINOR_DIGITS {
-        return no_minor();
+        return none();
     }
-    read_minor(line, at, Name::LONGEST, Name::LONGEST)
-}
-
-fn no_minor() -> Minor {
-    Minor {
-        good: false,
-        bytes: [0u8; Name::LONGEST],
+    let m = read_minor(line, at, Name::LONGEST, Name::LONGEST);
+    let bytes = m.bytes;
+    let mut name = zero();
+    name.minor = bytes;
+    Named {
+        good: m.good,
+        name,
+        next: 0,
     }
 }

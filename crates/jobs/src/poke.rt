@@ -1,4 +1,4 @@
-// A poke: one raw field of the tables is overwritten.
+// What a line sets by itself, with no request.
 pub(crate) enum StepField {
     Over,
     Code,
@@ -15,10 +15,13 @@ pub(crate) enum TaskField {
     Need,
 }
 
+// A major or a minor part is no number, and stands beside the poke.
 pub(crate) enum EntryField {
     Task,
     Excl,
     Length,
+    Major,
+    Minor,
 }
 
 pub(crate) enum EcbField {
@@ -35,9 +38,13 @@ pub(crate) enum AreaField {
     Owner,
 }
 
-// `at` is the place in its table: that of task n is n - 1. A
-// major or a minor part is no number, and is poked by itself.
-pub(crate) enum Poke {
+// A fresh start, or a poke, which overwrites one raw field. `at` is
+// the place in its table: that of task n is n - 1.
+pub(crate) enum Setting {
+    Fresh {
+        limit: u16,
+        dispatching: u16,
+    },
     Step {
         field: StepField,
         value: u32,

@@ -1,11 +1,12 @@
 // What a line that pokes asks for: the words after `poke`.
+use crate::form::Form;
 use crate::keys;
 use crate::number;
 use crate::number::Number;
 use crate::poke::AreaField;
 use crate::poke::EcbField;
 use crate::poke::EntryField;
-use crate::poke::Poke;
+use crate::poke::Setting;
 use crate::poke::StepField;
 use crate::poke::TaskField;
 use crate::word;
@@ -14,15 +15,7 @@ use kinds::EcbNumber;
 use kinds::Slot;
 use kinds::TaskNumber;
 
-// The digits of a major or minor part are left to be read from `from` on.
-pub(crate) enum PokeForm {
-    Unreadable,
-    Field(Poke),
-    Major { at: usize, from: usize },
-    Minor { at: usize, from: usize },
-}
-
-pub(crate) fn read(line: &[u8], at: usize) -> PokeForm {
+pub(crate) fn read(line: &[u8], at: usize) -> Form {
     let table = word::key(line, at);
     let next = word::after(line, at);
     if table == keys::STEP {
@@ -30,37 +23,37 @@ pub(crate) fn read(line: &[u8], at: usize) -> PokeForm {
     }
     let n = number::read(line, next);
     if !n.good {
-        return PokeForm::Unreadable;
+        return Form::Unreadable;
     }
     of_place(line, n.next, table, n.value)
 }
 
 // The field of a place, and then its value.
-fn of_place(line: &[u8], at: usize, table: u64, place: u32) -> PokeForm {
+fn of_place(line: &[u8], at: usize, table: u64, place: u32) -> Form {
     let field = word::key(line, at);
     let from = word::after(line, at);
     if table == keys::ENTRY {
         if field == keys::MAJOR {
-            return major(place, from);
+            return Form::Major { place, at: from };
         }
         if field == keys::MINOR {
-            return minor(place, from);
+            return Form::Minor { place, at: from };
         }
     }
     let v = last_number(line, from);
     if !v.good {
-        return PokeForm::Unreadable;
+        return Form::Unreadable;
     }
     of_table(table, place as usize, field, v.value)
 }
 
-fn of_table(table: u64, place: usize, field: u64, value: u32) -> PokeForm {
+fn of_table(table: u64, place: usize, field: u64, value: u32) -> Form {
     match table {
         keys::TASK => task(place, field, value),
         keys::ENTRY => entry(place, field, value),
         keys::ECB => ecb(place, field, value),
         keys::AREA => area(place, field, value),
-        _ => PokeForm::Unreadable,
+        _ => Form::Unreadable,
     }
 }
 
@@ -73,52 +66,32 @@ fn last_number(line: &[u8], at: usize) -> Number {
     n
 }
 
-fn major(place: u32, from: usize) -> PokeForm {
-    if (place as usize) < Slot::PLACES {
-        return PokeForm::Major {
-            at: place as usize,
-            from,
-        };
-    }
-    PokeForm::Unreadable
-}
-
-fn minor(place: u32, from: usize) -> PokeForm {
-    if (place as usize) < Slot::PLACES {
-        return PokeForm::Minor {
-            at: place as usize,
-            from,
-        };
-    }
-    PokeForm::Unreadable
-}
-
-fn step(line: &[u8], at: usize) -> PokeForm {
+fn step(line: &[u8], at: usize) -> Form {
     let v = last_number(line, word::after(line, at));
     if !v.good {
-        return PokeForm::Unreadable;
+        return Form::Unreadable;
     }
     let key = word::key(line, at);
     let value = v.value;
     match key {
-        keys::OVER => PokeForm::Field(Poke::Step {
+        keys::OVER => Form::Set(Setting::Step {
             field: StepField::Over,
             value,
         }),
-        keys::CODE => PokeForm::Field(Poke::Step {
+        keys::CODE => Form::Set(Setting::Step {
             field: StepField::Code,
             value,
         }),
-        _ => PokeForm::Unreadable,
+        _ => Form::Unreadable,
     }
 }
 
-fn task(n: usize, field: u64, value: u32) -> PokeForm {
+fn task(n: usize, field: u64, value: u32) -> Form {
     if n == 0 {
-        return PokeForm::Unreadable;
+        return Form::Unreadable;
     }
     if TaskNumber::PLACES < n {
-        return PokeForm::Unreadable;
+        return Form::Unreadable;
     }
     let at = n - 1;
     match field {
@@ -130,60 +103,60 @@ fn task(n: usize, field: u64, value: u32) -> PokeForm {
         keys::ECB => of_task(at, TaskField::Ecb, value),
         keys::RWAIT => of_task(at, TaskField::Rwait, value),
         keys::NEED => of_task(at, TaskField::Need, value),
-        _ => PokeForm::Unreadable,
+        _ => Form::Unreadable,
     }
 }
 
-fn of_task(at: usize, field: TaskField, value: u32) -> PokeForm {
-    PokeForm::Field(Poke::Task { at, field, value })
+fn of_task(at: usize, field: TaskField, value: u32) -> Form {
+    Form::Set(Setting::Task { at, field, value })
 }
 
-fn entry(at: usize, field: u64, value: u32) -> PokeForm {
+fn entry(at: usize, field: u64, value: u32) -> Form {
     if Slot::PLACES <= at {
-        return PokeForm::Unreadable;
+        return Form::Unreadable;
     }
     match field {
         keys::TASK => of_entry(at, EntryField::Task, value),
         keys::EXCL => of_entry(at, EntryField::Excl, value),
         keys::LENGTH => of_entry(at, EntryField::Length, value),
-        _ => PokeForm::Unreadable,
+        _ => Form::Unreadable,
     }
 }
 
-fn of_entry(at: usize, field: EntryField, value: u32) -> PokeForm {
-    PokeForm::Field(Poke::Entry { at, field, value })
+fn of_entry(at: usize, field: EntryField, value: u32) -> Form {
+    Form::Set(Setting::Entry { at, field, value })
 }
 
-fn ecb(at: usize, field: u64, value: u32) -> PokeForm {
+fn ecb(at: usize, field: u64, value: u32) -> Form {
     if EcbNumber::PLACES <= at {
-        return PokeForm::Unreadable;
+        return Form::Unreadable;
     }
     match field {
         keys::WAIT => of_ecb(at, EcbField::Wait, value),
         keys::COMPLETE => of_ecb(at, EcbField::Complete, value),
         keys::CODE => of_ecb(at, EcbField::Code, value),
         keys::WAITER => of_ecb(at, EcbField::Waiter, value),
-        _ => PokeForm::Unreadable,
+        _ => Form::Unreadable,
     }
 }
 
-fn of_ecb(at: usize, field: EcbField, value: u32) -> PokeForm {
-    PokeForm::Field(Poke::Ecb { at, field, value })
+fn of_ecb(at: usize, field: EcbField, value: u32) -> Form {
+    Form::Set(Setting::Ecb { at, field, value })
 }
 
-fn area(at: usize, field: u64, value: u32) -> PokeForm {
+fn area(at: usize, field: u64, value: u32) -> Form {
     if Area::PLACES <= at {
-        return PokeForm::Unreadable;
+        return Form::Unreadable;
     }
     match field {
         keys::ADDRESS => of_area(at, AreaField::Address, value),
         keys::LENGTH => of_area(at, AreaField::Length, value),
         keys::SUBPOOL => of_area(at, AreaField::Subpool, value),
         keys::OWNER => of_area(at, AreaField::Owner, value),
-        _ => PokeForm::Unreadable,
+        _ => Form::Unreadable,
     }
 }
 
-fn of_area(at: usize, field: AreaField, value: u32) -> PokeForm {
-    PokeForm::Field(Poke::Area { at, field, value })
+fn of_area(at: usize, field: AreaField, value: u32) -> Form {
+    Form::Set(Setting::Area { at, field, value })
 }

@@ -1,57 +1,84 @@
-// Pokes carried out: a place to raw fields, one of them overwritten, and back where the tables can hold it.
+// What a line sets: a fresh start, or a poke, which takes a place to raw fields, overwrites one of them, and goes back
+// where the tables can hold it.
 use crate::area_row::HeldArea;
 use crate::area_row::RawArea;
 use crate::ecb_row::HeldEcb;
 use crate::ecb_row::RawEcb;
 use crate::entry_row::HeldEntry;
 use crate::entry_row::RawEntry;
-use crate::outcome::Poked;
 use crate::poke::AreaField;
 use crate::poke::EcbField;
 use crate::poke::EntryField;
-use crate::poke::Poke;
+use crate::poke::Setting;
 use crate::poke::StepField;
 use crate::poke::TaskField;
 use crate::raw::WIDEST_FLAG;
 use crate::raw::WIDEST_HALF;
+use crate::saying::Said;
 use crate::task_row::HeldTask;
 use crate::task_row::RawTask;
 use kinds::Area;
 use kinds::EcbNumber;
 use kinds::Name;
+use kinds::NameList;
 use kinds::Slot;
 use kinds::TaskNumber;
 use queue::Queue;
 use services::Tables;
 use storage::Storage;
-ghost use Prim.Native.Nat.{_<_};
-ghost use Rattle.kinds.specs.Limits.{mostEntries};
+use tables::AllTables;
 
-pub(crate) fn poked(t: Tables, p: Poke) -> Poked {
-    match p {
-        Poke::Step { field, value } => poked_step(t, field, value),
-        Poke::Task { at, field, value } => poked_task(t, at, field, value),
-        Poke::Entry { at, field, value } => poked_entry(t, at, field, value),
-        Poke::Ecb { at, field, value } => poked_ecb(t, at, field, value),
-        Poke::Area { at, field, value } => poked_area(t, at, field, value),
+// The tables as they are left, and what is said of it. Where they cannot hold what is poked they are as they were.
+pub(crate) struct Left {
+    pub(crate) tables: Tables,
+    pub(crate) said: Said,
+}
+
+// Before the first `fresh` the tables are those of a step over with code 0, which a fresh start with dispatching above
+// limit gives back.
+pub(crate) fn start() -> Tables {
+    let a = Tables::fresh(0, 1);
+    a.tables
+}
+
+// A part of a name that is poked is that of the first of the names.
+pub(crate) fn set(tables: Tables, s: Setting, names: NameList) -> Left {
+    let t = tables.all;
+    match s {
+        Setting::Fresh { limit, dispatching } => fresh(limit, dispatching),
+        Setting::Step { field, value } => poked_step(t, field, value),
+        Setting::Task { at, field, value } => poked_task(t, at, field, value),
+        Setting::Entry { at, field, value } => poked_entry(t, at, field, value, names),
+        Setting::Ecb { at, field, value } => poked_ecb(t, at, field, value),
+        Setting::Area { at, field, value } => poked_area(t, at, field, value),
     }
 }
 
-fn now_held(t: Tables) -> Poked {
-    Poked {
-        tables: t,
-        held: true,
+fn fresh(limit: u16, dispatching: u16) -> Left {
+    let a = Tables::fresh(limit, dispatching);
+    let tables = a.tables;
+    let reply = a.reply;
+    Left {
+        tables,
+        said: Said::Answer(reply),
     }
 }
 
-fn not_held(t: Tables) -> Poked {
-    Poked {
-        tables: t,
-        held: false,
+fn now_held(t: AllTables) -> Left {
+    Left {
+        tables: Tables { all: t },
+        said: Said::Ok,
     }
 }
 
-fn poked_step(t: Tables, field: StepField, value: u32) -> Poked {
+fn not_held(t: AllTables) -> Left {
+    Left {
+        tables: Tables { all: t },
+        said: Said::NotHeld,
+    }
+}
+
+fn poked_step(t: AllTables, field: StepField, value: u32) -> Left {
     let mut r = t;
     match field {
         StepField::Over => {
@@ -70,51 +97,29 @@ fn poked_step(t: Tables, field: StepField, value: u32) -> Poked {
     now_held(r)
 }
 
-fn poked_task(t: Tables, at: usize, field: TaskField, value: u32) -> Poked {
+fn poked_task(t: AllTables, at: usize, field: TaskField, value: u32) -> Left {
     if TaskNumber::PLACES <= at {
         return not_held(t);
     }
-    let mut f = t.family;
+    let mut f = t.tasks;
     let x = RawTask::of(f.places[at]).with(field, value);
     let HeldTask::Held(y) = x.held() else {
         return not_held(t);
     };
     f.places[at] = y;
     let mut r = t;
-    r.family = f;
+    r.tasks = f;
     now_held(r)
 }
 
-fn poked_entry(t: Tables, at: usize, field: EntryField, value: u32) -> Poked {
+fn poked_entry(t: AllTables, at: usize, field: EntryField, value: u32, names: NameList) -> Left {
     if Slot::PLACES <= at {
         return not_held(t);
     }
-    let q = t.queue;
-    let x = RawEntry::of(q.slots[at]);
-    stored_entry(t, at, x.with(field, value))
-}
-
-pub(crate) fn poked_major(t: Tables, at: usize, major: [u8; Name::MAJOR]) -> Poked {
-    if Slot::PLACES <= at {
-        return not_held(t);
-    }
-    let q = t.queue;
-    let x = RawEntry::of(q.slots[at]);
-    stored_entry(t, at, x.with_major(major))
-}
-
-pub(crate) fn poked_minor(t: Tables, at: usize, minor: [u8; Name::LONGEST]) -> Poked {
-    if Slot::PLACES <= at {
-        return not_held(t);
-    }
-    let q = t.queue;
-    let x = RawEntry::of(q.slots[at]);
-    stored_entry(t, at, x.with_minor(minor))
-}
-
-fn stored_entry(t: Tables, at: usize, x: RawEntry) -> Poked
-    requires { ⌜ at < mostEntries ⌝ }
-{
+    let w = names.names[0];
+    let given = w.name;
+    let mut q = t.queue;
+    let x = RawEntry::of(q.slots[at]).with(field, value, given);
     let HeldEntry::Held {
         task,
         exclusive,
@@ -130,7 +135,6 @@ fn stored_entry(t: Tables, at: usize, x: RawEntry) -> Poked
         minor,
         length,
     };
-    let mut q = t.queue;
     q.slots[at] = Slot {
         task,
         exclusive,
@@ -142,22 +146,22 @@ fn stored_entry(t: Tables, at: usize, x: RawEntry) -> Poked
     now_held(r)
 }
 
-fn poked_ecb(t: Tables, at: usize, field: EcbField, value: u32) -> Poked {
+fn poked_ecb(t: AllTables, at: usize, field: EcbField, value: u32) -> Left {
     if EcbNumber::PLACES <= at {
         return not_held(t);
     }
-    let mut e = t.events;
+    let mut e = t.ecbs;
     let x = RawEcb::of(e.ecbs[at]).with(field, value);
     let HeldEcb::Held(y) = x.held() else {
         return not_held(t);
     };
     e.ecbs[at] = y;
     let mut r = t;
-    r.events = e;
+    r.ecbs = e;
     now_held(r)
 }
 
-fn poked_area(t: Tables, at: usize, field: AreaField, value: u32) -> Poked {
+fn poked_area(t: AllTables, at: usize, field: AreaField, value: u32) -> Left {
     if Area::PLACES <= at {
         return not_held(t);
     }

@@ -1,6 +1,6 @@
 // The reports: who is stuck, and who stands in which queue. The service writes items into a list area that is lent to
-// it, and a line is put for each. An item gives the place of an entry in the queue, which comes back as it was; one
-// whose place the queue does not have, which no service writes, has no line.
+// it, and a line is put for each. An item gives the place of an entry in the queue, which stays as it is; one whose
+// place the queue does not have, which no service writes, has no line.
 use crate::lines::put_field;
 use crate::lines::put_hex_field;
 use crate::listing;
@@ -13,7 +13,6 @@ use crate::text::put;
 use crate::text::put_byte;
 use crate::text::put_bytes_hex;
 use kinds::Name;
-use kinds::Reply;
 use kinds::Slot;
 use queue::Queue;
 use services::Tables;
@@ -29,13 +28,6 @@ const QUEUE_ITEM: usize = 2;
 const STUCK_LIST: usize = STUCK_ITEM * MOST_ROOM;
 
 const QUEUES_LIST: usize = QUEUE_ITEM * MOST_ROOM;
-
-// `NUMBER COUNT`.
-fn put_reply(reply: Reply, out: &mut [u8; BLOCK], at: usize) -> usize
-    ensures { λ r. ⌜ Kept at r ⌝ }
-{
-    listing::answer(out, at, reply.number(), reply.besides(), b"")
-}
 
 // A space and the name.
 fn put_name(name: Name, out: &mut [u8; BLOCK], at: usize) -> usize
@@ -63,10 +55,10 @@ pub(crate) fn stuck(t: Tables, room: u8, out: &mut [u8; BLOCK], at: usize) -> us
     let length = STUCK_ITEM * room as usize;
     let mut list = [UNWRITTEN; STUCK_LIST];
     let a = t.stuck(&mut list[..length]);
-    let tables = a.tables;
-    let q = tables.queue;
+    let all = t.all;
+    let q = all.queue;
     let reply = a.reply;
-    let k = put_reply(reply, out, at);
+    let k = listing::answer(reply, out, at);
     put_stuck(q, list, number::byte(reply.besides()), out, k)
 }
 
@@ -113,10 +105,10 @@ pub(crate) fn queues(t: Tables, room: u8, out: &mut [u8; BLOCK], at: usize) -> u
     let length = QUEUE_ITEM * room as usize;
     let mut list = [UNWRITTEN; QUEUES_LIST];
     let a = t.queues(&mut list[..length]);
-    let tables = a.tables;
-    let q = tables.queue;
+    let all = t.all;
+    let q = all.queue;
     let reply = a.reply;
-    let k = put_reply(reply, out, at);
+    let k = listing::answer(reply, out, at);
     put_queues(q, list, number::byte(reply.besides()), out, k)
 }
 

@@ -1,23 +1,20 @@
 // What is written for a line.
 use crate::listing;
 use crate::sizes::BLOCK;
-use crate::sizes::MOST_CODES;
 use crate::text;
-use crate::turn::Said;
-ghost use Prim.Native.Nat.{_≤_};
+use kinds::Reply;
 ghost use Rattle.jobs.specs.Places.{Kept};
-ghost use Rattle.jobs.specs.Sizes.{mostCodes};
 
-// The answer to line `number` of the script, behind what is in the block; the codes area is `length` bytes of `codes`.
-pub(crate) fn say(
-    said: Said,
-    codes: [u8; MOST_CODES],
-    length: usize,
-    number: u64,
-    out: &mut [u8; BLOCK],
-    at: usize,
-) -> usize
-    requires { ⌜ length ≤ mostCodes ⌝ }
+pub(crate) enum Said {
+    Nothing,
+    Unreadable,
+    NotHeld,
+    Ok,
+    Answer(Reply),
+}
+
+// For line `number` of the script, behind what is in the block.
+pub(crate) fn say(said: Said, number: u64, out: &mut [u8; BLOCK], at: usize) -> usize
     ensures { λ r. ⌜ Kept at r ⌝ }
 {
     match said {
@@ -25,13 +22,7 @@ pub(crate) fn say(
         Said::Unreadable => mark(b"? ", number, out, at),
         Said::NotHeld => mark(b"! ", number, out, at),
         Said::Ok => text::put(out, at, b"ok\n"),
-        Said::Answer { number, besides } => listing::answer(
-            out,
-            at,
-            number,
-            besides,
-            &codes[..length],
-        ),
+        Said::Answer(reply) => listing::answer(reply, out, at),
     }
 }
 

@@ -1,50 +1,54 @@
 // The script on standard input, from its first line to its last.
-use crate::form;
 use crate::input;
+use crate::listing;
+use crate::listing::UNWRITTEN;
+use crate::poking;
 use crate::saying;
 use crate::sizes::BLOCK;
 use crate::sizes::HIGHEST_LINE;
+use crate::sizes::MOST_CODES;
 use crate::text;
 use crate::turn;
+use crate::turn::What;
 
 // Answers whether the end of the input was seen and every answer written. That is for the system to say, so nothing is
 // promised of it.
 pub fn run() -> bool {
     let mut block = [0u8; BLOCK];
     let mut out = [0u8; BLOCK];
-    let mut tables = turn::start();
-    let mut next: usize = 0;
-    let mut end: usize = 0;
+    let mut tables = poking::start();
+    let mut s = input::no_line();
     let mut at: usize = 0;
     let mut number: u64 = 0;
-    let mut ended = false;
-    while number < HIGHEST_LINE {
-        let s = input::line(&mut block, next, end);
+    while number < HIGHEST_LINE && at <= BLOCK {
+        s = input::line(&mut block, s.next, s.end);
         if s.over {
-            ended = !s.failed;
             break;
         }
         number += 1;
-        next = s.next;
-        end = s.end;
-        let from = s.from;
-        let to = s.to;
-        if form::is_nothing(&block[from..to]) {
-            continue;
-        }
-        let t = turn::taken(tables, &block[from..to]);
-        tables = t.tables;
-        let said = t.said;
-        let codes = t.codes;
-        at = saying::say(said, codes, t.length, number, &mut out, at);
-        let shows = t.shows;
-        if shows.any() {
-            at = shows.put(tables, &mut out, at);
-        }
-        if BLOCK < at {
-            break;
+        let asked = turn::read(&block, s.from, s.to);
+        let names = asked.names;
+        let what = asked.what;
+        match what {
+            What::Say(said) => at = saying::say(said, number, &mut out, at),
+            What::Request(request) => {
+                let ecbs = asked.ecbs;
+                let length = asked.length;
+                let mut codes = [UNWRITTEN; MOST_CODES];
+                let a = tables.serve(request, names, ecbs, &mut codes[..length]);
+                let reply = a.reply;
+                at = listing::answer_with(reply, codes, length, &mut out, at);
+                tables = a.tables;
+            }
+            What::Set(setting) => {
+                let r = poking::set(tables, setting, names);
+                tables = r.tables;
+                let said = r.said;
+                at = saying::say(said, number, &mut out, at);
+            }
+            What::Show(shows) => at = shows.put(tables, &mut out, at),
         }
     }
     let left = text::flush(&mut out, at);
-    ended && left == 0
+    s.over & !s.failed & (left == 0)
 }

@@ -11,26 +11,16 @@ pub(crate) enum Report {
 }
 
 pub(crate) enum Shows {
-    Nothing,
     Tables,
     // The list area has room for so many items.
     Report { report: Report, room: u8 },
 }
 
 impl Shows {
-    pub(crate) fn any(self) -> bool {
-        match self {
-            Shows::Nothing => false,
-            Shows::Tables => true,
-            Shows::Report { report: _, room: _ } => true,
-        }
-    }
-
     pub(crate) fn put(self, t: Tables, out: &mut [u8; BLOCK], at: usize) -> usize
         ensures { λ r. ⌜ Kept at r ⌝ }
     {
         match self {
-            Shows::Nothing => at,
             Shows::Tables => listing::dump(t, out, at),
             Shows::Report { report, room } => report.put(t, room, out, at),
         }

@@ -4,4 +4,10 @@ pub mod Zeros
 pub mod Barring
 pub mod Passes
 pub mod Sweeps
+pub mod Filled
+pub mod Flagged
+pub mod Soles
+pub mod Builds
+pub mod Looking
+pub mod Exclusive
 pub mod Promises

@@ -10,6 +10,13 @@ use Rattle.queue.proofs.entry_names_good.Reads as entry-names-good
 use Rattle.queue.proofs.lacking.Reads as lacking
 use Rattle.queue.proofs.marks.all_marks.Reads as all-marks
 use Rattle.queue.proofs.marks.no_marks.Reads as no-marks
+use Rattle.queue.proofs.lead.sole.Reads as sole
+use Rattle.queue.proofs.looks.all_set_but.Reads as all-set-but
+use Rattle.queue.proofs.looks.entered.Reads as entered
+use Rattle.queue.proofs.looks.available.Reads as available
+use Rattle.queue.proofs.releasing.release.Reads as release
+use Rattle.queue.proofs.queuing.with_tail.Reads as with-tail
+use Rattle.queue.proofs.queuing.made_exclusive.Reads as made-exclusive
 
 pub empty-once : Once empty.Post
 empty-once k a x y e d p q = p ∙ sym q
@@ -37,3 +44,24 @@ all-marks-once k a x y e d p q = p ∙ sym q
 
 pub no-marks-once : Once no-marks.Post
 no-marks-once k a x y e d p q = p ∙ sym q
+
+pub sole-once : Once sole.Post
+sole-once k a x y e d p q = p ∙ sym q
+
+pub all-set-but-once : Once all-set-but.Post
+all-set-but-once k a x y e d p q = p ∙ sym q
+
+pub entered-once : Once entered.Post
+entered-once k a x y e d p q = p ∙ sym q
+
+pub available-once : Once available.Post
+available-once k a x y e d p q = p ∙ sym q
+
+pub release-once : Once release.Post
+release-once k a x y e d p q = p ∙ sym q
+
+pub with-tail-once : Once with-tail.Post
+with-tail-once k a x y e d p q = p ∙ sym q
+
+pub made-exclusive-once : Once made-exclusive.Post
+made-exclusive-once k a x y e d p q = p ∙ sym q

@@ -1,2 +1,4 @@
 pub mod Queues
 pub mod Marking
+pub mod Flagging
+pub mod Leading

@@ -1,5 +1,9 @@
 // The resource queue: entries in the order of request, packed.
+pub mod lead;
+pub mod looks;
 pub mod marks;
+pub mod queuing;
+pub mod releasing;
 
 use kinds::Name;
 use kinds::Slot;

@@ -1,4 +1,4 @@
--- How a gate, a verdict and a change make a service's answer.
+-- The one path of every request: sound tables, the gate, the service's body, its verdict.
 use mathlib.Core.Path.{_≡_, refl, sym, ap, subst, _∙_}
 use mathlib.Core.Bool.{Bool, true, false}
 use mathlib.Core.List.{List}
@@ -6,17 +6,18 @@ use Prim.Native.Nat.{ℕ, _≤_}
 use lib.Dec.{leb}
 use native.Mathlib.Omega.{arith}
 use borrow.Author.Tests.{leb-true}
+use lib.ListN.{length}
 use Rattle.lists.specs.Bools.{both}
-use Rattle.lists.specs.Pick.{pick, chain-and}
-use Rattle.kinds.specs.Limits.{lowestTask, highestTask, highestPriority}
+use Rattle.lists.specs.Pick.{pick, on-true}
+use Rattle.kinds.specs.Limits.{highestPriority}
 use Rattle.kinds.specs.Ranges.{priorityGood}
-use Rattle.kinds.specs.Replies.{faultNumber}
 use Rattle.kinds.specs.Replies.Besides.{TheNumber}
 use Rattle.kinds.specs.Tasks.{isLive, waits}
 use Rattle.kinds.specs.declared.tasks.Task.{Task}
-use Rattle.kinds.specs.declared.ecbs.Ecb.{Ecb}
-use Rattle.kinds.specs.declared.areas.Area.{Area}
 use Rattle.kinds.specs.declared.numbers.TaskNumber.{TaskNumber}
+use Rattle.kinds.specs.declared.requests.Request.{Request}
+use Rattle.kinds.specs.declared.requests.Request.the-variants.{Attach, Detach, End, Abend, Enq, Deq, Wait, Post, Clear}
+use Rattle.kinds.specs.declared.requests.Request.the-variants.{Getmain, Freemain, Dispatch}
 use Rattle.kinds.specs.declared.replies.Refusal.{Refusal}
 use Rattle.kinds.specs.declared.replies.Refusal.the-variants.{Unsound, OutOfRange}
 use Rattle.kinds.specs.declared.replies.Fault.{Fault}
@@ -24,227 +25,238 @@ use Rattle.kinds.specs.declared.replies.Gate.{Gate}
 use Rattle.kinds.specs.declared.replies.Gate.the-variants.{Open, Shut}
 use Rattle.kinds.specs.declared.replies.Verdict.{Verdict}
 use Rattle.kinds.specs.declared.replies.Verdict.the-variants.{Go, Refuse, Fail}
-use Rattle.rules.specs.Steps.{Step, Outcome, refused, failed, done, doneWith, keptBy, withTasks, withQueue, withEcbs}
-use Rattle.rules.specs.Steps.{withAreas}
-use Rattle.rules.specs.Steps.{overStep}
-use Rattle.rules.specs.Control.{Entry}
-use Rattle.rules.specs.Dispatch.{dispatched, dispatchBody}
-use Rattle.rules.specs.Fresh.{freshStep, freshGood, freshOf}
-use Rattle.rules.specs.Ending.{ended, failing}
+use Rattle.rules.specs.Tests.{firstOf}
+use Rattle.rules.specs.Names.{Names}
+use Rattle.rules.specs.Events.{Ecbs}
+use Rattle.rules.specs.Steps.{Step, Outcome, Served, refused, doneWith, done, keptBy, untouched, overStep}
 use Rattle.rules.specs.Family.{place}
+use Rattle.rules.specs.Fresh.{freshStep, freshGood, freshOf}
 use Rattle.rules.specs.Sound.{soundStep}
-use Rattle.rules.specs.Admission.{admitted, gateOf, through, settled}
-use Rattle.family.specs.Families.{familyOf}
-use Rattle.events.specs.Blocks.{eventsOf}
-use Rattle.queue.specs.Queues.{entriesIn, packedEntries, storedEntries}
-use Rattle.queue.proofs.Views.{packed-kept as queue-kept}
-use Rattle.storage.specs.Stored.{storedAreas, packedAreas}
-use Rattle.storage.specs.Kept.{packed-kept as areas-kept}
-use Rattle.claims.specs.Claiming.{Admits}
-use Rattle.endings.specs.Wholes.{stepIn, wholeOf, Ends}
-use Rattle.endings.specs.declared.Whole.{Whole}
-use Rattle.laws.specs.Running.{Running, running-parts}
-use Rattle.laws.specs.Chains.{used-pos, used-within}
-use Rattle.laws.specs.Mothers.{fits-length}
-use Rattle.laws.specs.Admitted.{open-running, open-used}
-use Rattle.services.specs.Kept.{Packed, Admitted, stepOf, tablesOf, wholeIn, tablesIn, withFamily, withSignals}
-use Rattle.services.specs.Kept.{withClaims, withStorage, settledIn, soundb, answered, gated, gateAt}
+use Rattle.rules.specs.Admission.{admitted, gateOf, openGate, through, settled, codesThrough}
+use Rattle.rules.specs.Dispatch.{dispatched, dispatchBody}
+use Rattle.rules.specs.Form.{callerOf}
+use Rattle.rules.specs.Serve.{Asked, serviceOf, serviceTests, ownTests}
+use Rattle.laws.specs.Tested.{gateAt, tested, gated as behindGate}
+use Rattle.laws.specs.Answering.{Sorts, service-sorts}
+use Rattle.laws.specs.Answering.Sorts.{refuses, fails, goes}
+use Rattle.tables.specs.Tables.{soundTables, Packed, Admitted}
+use Rattle.tables.specs.Tables as all
+use Rattle.tables.specs.Bodies.{Told, told, bodyOf}
+use Rattle.tables.specs.declared.AllTables.{AllTables}
+use Rattle.tables.specs.declared.made.Made.{Made}
+use Rattle.tables.proofs.Admits as admits
+use Rattle.services.specs.Kept.{inTables, stepOf, tablesOf, said, saidWith, servedBy, soundb, answered}
+use Rattle.services.specs.Kept.{answeredWith}
+use Rattle.services.specs.Serve.{servedOf, callerIn, gateFor, gated, Behind, settledAs}
 use Rattle.services.specs.declared.Tables.{Tables}
+use Rattle.services.specs.declared.Answer.{Answer}
+use Rattle.services.specs.declared.Caller.{Caller}
 
 -- SOUND TABLES KEEP THEIR STEP
 
-pub sound-packed : (t : Tables) → soundb t ≡ true → Packed t
-unfolding soundb
-sound-packed t h =
-    let a = chain-and (packedEntries (t .queue)) _ h in
-    let b = chain-and (packedAreas (t .storage)) _ (a .1) in
-    record { queue = queue-kept (t .queue) (a .0); storage = areas-kept (t .storage) (b .0) }
+pub sound-packed : (t : Tables) → soundb t ≡ true → Packed (t .all)
+sound-packed t h = admits.sound-packed (t .all) h
 
 pub sound-step : (t : Tables) → soundb t ≡ true → soundStep (stepOf t) ≡ true
-unfolding soundb
-sound-step t h = chain-and (packedAreas (t .storage)) _ (chain-and (packedEntries (t .queue)) _ h .1) .1
+sound-step t h = admits.sound-step (t .all) h
 
-pub packed-tables : (t : Tables) → Packed t → tablesOf (stepOf t) ≡ t
-packed-tables t p = λ i. record {
-  over = t .over;
-  code = t .code;
-  family = t .family;
-  queue = sym (p .queue .form) i;
-  events = t .events;
-  storage = sym (p .storage .form) i;
-}
-
--- the law that inner functions live on
 pub sound-tables : (t : Tables) → soundb t ≡ true → tablesOf (stepOf t) ≡ t
-sound-tables t h = packed-tables t (sound-packed t h)
+sound-tables t h = ap inTables (admits.packed-tables (t .all) (sound-packed t h))
 
 -- a refusal leaves the tables as they are
-pub refused-kept : (t : Tables) (why : Refusal) → Packed t → refused why t ≡ keptBy tablesOf (refused why (stepOf t))
-refused-kept t why p = ap (refused why) (sym (packed-tables t p))
+pub refused-kept : (t : Tables) (why : Refusal) → soundb t ≡ true
+    → refused why t ≡ keptBy tablesOf (refused why (stepOf t))
+refused-kept t why h = ap (refused why) (sym (sound-tables t h))
 
 -- THE GATE's result g
 
 shut-open : {A : Type 0} (why : Refusal) → Shut why ≡ Open → A
 shut-open why e = absurd (let z : _≡_ {A = ℕ} 0 1 = cc in omega arith)
 
-module _ (t : Tables) (k : Step → Gate) where
-  pub gate-cases : (b : Bool) → soundb t ≡ b → gated t k ≡ pick b (k (stepOf t)) (Shut Unsound)
+module _ (t : AllTables) (k : Step → Gate) where
+  pub gate-unsound : soundTables t ≡ false → Shut Unsound ≡ gated t k
+  unfolding gated pick
+  gate-unsound h = rw h
+
+  pub gate-is : (g : Gate) → soundTables t ≡ true → g ≡ k (all.stepOf t) → g ≡ gated t k
+  unfolding gated pick
+  gate-is g h e = rw h e
+
+  gate-cases : (b : Bool) → soundTables t ≡ b → gated t k ≡ pick b (k (all.stepOf t)) (Shut Unsound)
   unfolding gated
   gate-cases b e = rw e
 
-  open-sound : (b : Bool) → soundb t ≡ b → gated t k ≡ Open → soundb t ≡ true
+  open-sound : (b : Bool) → soundTables t ≡ b → gated t k ≡ Open → soundTables t ≡ true
   unfolding pick
   open-sound true e h = e
   open-sound false e h = shut-open Unsound (sym (gate-cases false e) ∙ h)
 
-  pub gate-opens : (g : Gate) → g ≡ gated t k → g ≡ Open → (soundb t ≡ true) × (k (stepOf t) ≡ Open)
+  pub gate-opens : (g : Gate) → g ≡ gated t k → g ≡ Open → (soundTables t ≡ true) × (k (all.stepOf t) ≡ Open)
   unfolding pick
   gate-opens g e h =
-      let b = open-sound (soundb t) refl (sym e ∙ h) in (b, sym (gate-cases true b) ∙ sym e ∙ h)
+      let b = open-sound (soundTables t) refl (sym e ∙ h) in (b, sym (gate-cases true b) ∙ sym e ∙ h)
 
-  pub gate-packed : (g : Gate) → g ≡ gated t k → g ≡ Open → Packed t
-  gate-packed g e h = sound-packed t (gate-opens g e h .0)
-
-  module _ (o : Step → Outcome Step) (s : Outcome Tables) where
-    open-is : (b : Bool) → soundb t ≡ b → gated t k ≡ Open → s ≡ keptBy tablesOf (o (stepOf t))
-        → s ≡ answered t (λ u. through (k u) u (o u))
-    unfolding answered pick through
-    open-is true e h a =
-        let g : k (stepOf t) ≡ Open = sym (gate-cases true e) ∙ h in
-        rw (e, g) a
-    open-is false e h a = shut-open Unsound (sym (gate-cases false e) ∙ h)
-
-    -- an open gate: what the service's body answers
-    pub at-open : (g : Gate) → g ≡ gated t k → g ≡ Open → s ≡ keptBy tablesOf (o (stepOf t))
-        → s ≡ answered t (λ u. through (k u) u (o u))
-    at-open g e h a = open-is (soundb t) refl (sym e ∙ h) a
-
-    shut-is : (why : Refusal) (b : Bool) → soundb t ≡ b → gated t k ≡ Shut why → s ≡ refused why t
-        → s ≡ answered t (λ u. through (k u) u (o u))
-    unfolding answered pick through
-    shut-is why true e h a =
-        let g : k (stepOf t) ≡ Shut why = sym (gate-cases true e) ∙ h in
-        rw (e, g) (a ∙ refused-kept t why (sound-packed t e))
-    shut-is why false e h a =
-        let g : why ≡ Unsound = cc (gate-cases false e) in
-        rw (e) (a ∙ ap (λ (w : Refusal). refused w t) g)
-
-    -- a gate that is shut refuses
-    pub at-shut : (g : Gate) (why : Refusal) → g ≡ gated t k → g ≡ Shut why → s ≡ refused why t
-        → s ≡ answered t (λ u. through (k u) u (o u))
-    at-shut g why e h a = shut-is why (soundb t) refl (sym e ∙ h) a
-
--- WHAT AN OPEN GATE GIVES
-
-pub gate-admits : (t : Tables) (c : TaskNumber) (g : Gate) → g ≡ gateAt t c → g ≡ Open → Admitted t c
-gate-admits t c g e h = let o = gate-opens t (λ u. gateOf u c) g e h in record { sound = o .0; gate = o .1 }
-
-module _ (t : Tables) (c : TaskNumber) (a : Admitted t c) where
-  pub admitted-packed : Packed t
-  admitted-packed = sound-packed t (a .sound)
-
-  pub admitted-running : Running (stepOf t)
-  admitted-running = running-parts (stepOf t) (sound-step t (a .sound)) (open-running (stepOf t) c (a .gate))
-
-  -- an admitted caller has a place
-  pub caller-place : (lowestTask ≤ c .0) × (c .0 ≤ highestTask)
-  caller-place =
-      let u = open-used (stepOf t) c (a .gate) in (
-        omega (arith, used-pos (t .family .places) (c .0) u),
-        omega (
-          arith,
-          used-within (t .family .places) (c .0) u,
-          fits-length (t .family .places)
-              (admitted-running .tasks .fits),
-        ),
-      )
-
-  -- as an ending asks it
-  pub caller-ends : (w : Whole) → w ≡ wholeIn t → Ends w c
-  caller-ends w e =
-      subst (λ (x : Whole). Ends x c) (sym e)
-      (record {
-        packed = record { queue = admitted-packed .queue; storage = admitted-packed .storage };
-        running = admitted-running;
-        gate = a .gate;
-      })
-
-  -- as ENQ and DEQ ask it
-  pub caller-claims : Admits (entriesIn (t .queue)) (t .family .places) c
-  caller-claims = record {
-    rest = stepOf t;
-    running = admitted-running;
-    gate = a .gate;
-  }
-
--- THE VERDICT v
-
--- a service that says what becomes of the tables where its verdict v is to go on, here w
-pub settles : (t : Tables) (c : TaskNumber) (o : Outcome Step) (n s : Outcome Tables) (v w : Verdict) → Packed t → w ≡ v
-    → (v ≡ Go → n ≡ keptBy tablesOf o) → s ≡ settledIn w t c n
-    → s ≡ keptBy tablesOf (settled v (stepOf t) c o)
-unfolding settled settledIn
-settles t c o n s v w p e g a = a ∙ ap (λ (z : Verdict). settledIn z t c n) e ∙ one v g
-  where
-    one : (u : Verdict) → (u ≡ Go → n ≡ keptBy tablesOf o)
-        → settledIn u t c n ≡ keptBy tablesOf (settled u (stepOf t) c o)
-    one Go k = k refl
-    one (Refuse why) k = refused-kept t why p
-    one (Fail what) k = refl
-
--- THE TESTS OF THE TABLES, AND OF A CALLER
-
-module _ (t : Tables) (k : Step → Gate) where
-  pub gate-unsound : soundb t ≡ false → Shut Unsound ≡ gated t k
-  unfolding gated pick
-  gate-unsound h = rw h
-
-  pub gate-is : (g : Gate) → soundb t ≡ true → g ≡ k (stepOf t) → g ≡ gated t k
-  unfolding gated pick
-  gate-is g h e = rw h e
-
-pub caller-gate : (t : Tables) (c : TaskNumber) (g : Gate) (a b : Bool) (x : Task) → g ≡ admitted (t .over) a b
+pub caller-gate : (t : AllTables) (c : TaskNumber) (g : Gate) (a b : Bool) (x : Task) → g ≡ admitted (t .over) a b
     → a ≡ isLive (x .condition) → b ≡ waits (x .condition)
-    → x ≡ place (t .family .places) (c .0) → g ≡ gateOf (stepOf t) c
+    → x ≡ place (t .tasks .places) (c .0) → g ≡ gateOf (all.stepOf t) c
 unfolding gateOf
 caller-gate t c g a b x e u v w =
     e ∙ rw (u, v) (ap (λ (y : Task). admitted (t .over) (isLive (y .condition)) (waits (y .condition))) w)
 
--- WHAT A SERVICE LEAVES
+-- whoever a request names, the gate is the one of the request
+gate-named : (s : Step) (q : Request) → gateFor (callerIn q) s ≡ gateAt s q
+gate-named s (Attach c lpmod dpmod ecb) = refl
+gate-named s (Detach c task) = refl
+gate-named s (End c code) = refl
+gate-named s (Abend c code step) = refl
+gate-named s (Enq c ret) = refl
+gate-named s (Deq c ret) = refl
+gate-named s (Wait c n) = refl
+gate-named s (Post c e code) = refl
+gate-named s (Clear c e) = refl
+gate-named s (Getmain c bytes subpool conditional) = refl
+gate-named s (Freemain c address bytes subpool) = refl
+gate-named s Dispatch = refl
 
-pub put-family : (t : Tables) (ts : List Task) → Packed t
-    → withFamily t (familyOf ts) ≡ tablesOf (withTasks (stepOf t) ts)
-put-family t ts p = ap (λ (u : Tables). withFamily u (familyOf ts)) (sym (packed-tables t p))
+pub gate-behind : (t : AllTables) (q : Request) (w : Caller) (g : Gate) → w ≡ callerIn q → g ≡ gated t (gateFor w)
+    → g ≡ Open → Behind t q
+gate-behind t q w g n e h =
+    let o = gate-opens t (gateFor w) g e h in
+    record {
+      sound = o .0;
+      gate = sym (gate-named (all.stepOf t) q) ∙ ap (λ (x : Caller). gateFor x (all.stepOf t)) (sym n) ∙ o .1;
+    }
 
-pub put-signals : (t : Tables) (ts : List Task) (es : List Ecb) → Packed t
-    → withSignals t (eventsOf es) (familyOf ts) ≡ tablesOf (withEcbs (withTasks (stepOf t) ts) es)
-put-signals t ts es p = ap (λ (u : Tables). withSignals u (eventsOf es) (familyOf ts)) (sym (packed-tables t p))
+-- A GATE THAT IS SHUT
 
-pub put-claims : (t : Tables) (ts : List Task) (q : List Entry) → Packed t
-    → withClaims t (familyOf ts) (storedEntries q) ≡ tablesOf (withQueue (withTasks (stepOf t) ts) q)
-put-claims t ts q p = ap (λ (u : Tables). withClaims u (familyOf ts) (storedEntries q)) (sym (packed-tables t p))
+-- refuses and writes nothing, where the rules say so of it
+module _ (t : Tables) (area : List ℕ) (k : Step → Gate) (f : Step → List ℕ → Served Step) where
+  shut-is : (s : Outcome Tables) (why : Refusal) (b : Bool) → soundb t ≡ b → gated (t .all) k ≡ Shut why
+      → s ≡ refused why t
+      → (k (stepOf t) ≡ Shut why → f (stepOf t) area ≡ untouched area (refused why (stepOf t)))
+      → untouched area s ≡ answeredWith t area f
+  unfolding answeredWith pick
+  shut-is s why true e h a l =
+      let g : k (stepOf t) ≡ Shut why = sym (gate-cases (t .all) k true e) ∙ h in
+      rw e (ap (untouched area) (a ∙ refused-kept t why e) ∙ ap servedBy (sym (l g)))
+  shut-is s why false e h a l =
+      let g : why ≡ Unsound = cc (gate-cases (t .all) k false e) in
+      rw e (ap (untouched area) (a ∙ ap (λ (w : Refusal). refused w t) g))
 
-pub put-areas : (t : Tables) (l : List Area) → Packed t
-    → withStorage t (storedAreas l) ≡ tablesOf (withAreas (stepOf t) l)
-put-areas t l p = ap (λ (u : Tables). withStorage u (storedAreas l)) (sym (packed-tables t p))
+  pub served-shut : (s : Outcome Tables) (g : Gate) (why : Refusal) → g ≡ gated (t .all) k → g ≡ Shut why
+      → s ≡ refused why t
+      → (k (stepOf t) ≡ Shut why → f (stepOf t) area ≡ untouched area (refused why (stepOf t)))
+      → untouched area s ≡ answeredWith t area f
+  served-shut s g why e h a l = shut-is s why (soundb t) refl (sym e ∙ h) a l
 
--- a program error
-pub fails-so : (t : Tables) (c : TaskNumber) (what : Fault) (n : ℕ) (w x : Whole) (r : Tables) → w ≡ wholeIn t
-    → n ≡ faultNumber what → x ≡ wholeOf (ended (stepIn w) (c .0) n) → r ≡ tablesIn x
-    → failed what r ≡ keptBy tablesOf (failing what (stepOf t) c)
-unfolding failing
-fails-so t c what n w x r a b d e =
-    ap (failed what)
-    (e ∙ ap tablesIn (d ∙ ap (λ (z : Whole). wholeOf (ended (stepIn z) (c .0) n)) a
-    ∙ ap (λ (m : ℕ). wholeOf (ended (stepOf t) (c .0) m)) b))
+-- the rules say so of every request
+module _ (s : Step) (q : Request) (ns : Names) (es : Ecbs) (area : List ℕ) (why : Refusal) where
+  shut-sorts : (o : Served Step) → firstOf (serviceTests s q ns es (length area)) ≡ Refuse why
+      → Sorts s (callerOf q) area (serviceTests s q ns es (length area)) o → o ≡ untouched area (refused why s)
+  shut-sorts o h (refuses w f e) =
+      let g : w ≡ why = cc in
+      e ∙ ap (λ (x : Refusal). untouched area (refused x s)) g
+  shut-sorts o h (fails what d n g f e) = absurd (let z : _≡_ {A = ℕ} 0 1 = cc in omega arith)
+  shut-sorts o h (goes f n) = absurd (let z : _≡_ {A = ℕ} 0 1 = cc in omega arith)
+
+  pub service-shut : gateAt s q ≡ Shut why → serviceOf s q ns es area ≡ untouched area (refused why s)
+  service-shut h =
+      shut-sorts _
+      (tested s q ns es (length area) .behind
+      ∙ ap (λ (g : Gate). behindGate g (firstOf (ownTests s q ns es (length area)))) h)
+      (service-sorts s q ns es area)
+
+-- THE WHOLE PATH
+
+module _ (t : Tables) (q : Request) (ns : Names) (es : Ecbs) (area : List ℕ) where
+  abbrev asked : Asked
+  asked = record { request = q; names = ns; ecbs = es; area = area }
+
+  -- a gate that is shut refuses, whatever is asked
+  pub serve-shut : (w : Caller) (g : Gate) (why : Refusal) (s : Outcome Tables) → w ≡ callerIn q
+      → g ≡ gated (t .all) (gateFor w) → g ≡ Shut why → s ≡ refused why t → untouched area s ≡ servedOf t asked
+  unfolding servedOf
+  serve-shut w g why s n e h a =
+      served-shut t area (gateFor w) (λ u l. serviceOf u q ns es l) s g why e h a
+      (λ k. service-shut (stepOf t) q ns es area why
+      (sym (gate-named (stepOf t) q) ∙ ap (λ (x : Caller). gateFor x (stepOf t)) (sym n) ∙ k))
+
+  -- behind an open one stands what the rules say
+  pub serve-open : (o : Served Tables) → soundb t ≡ true → o ≡ servedBy (serviceOf (stepOf t) q ns es area)
+      → o ≡ servedOf t asked
+  unfolding servedOf answeredWith
+  serve-open o h e = on-true (soundb t) _ _ _ h e
+
+  -- the answer alone
+  pub plain-said : (r : Answer) (left : List ℕ) → saidWith r left ≡ servedOf t asked
+      → said r ≡ answered t (λ s. serviceOf s q ns es area .outcome)
+  unfolding servedOf answeredWith answered pick
+  plain-said r left e = ap (λ (o : Served Tables). o .outcome) e ∙ one (soundb t)
+    where
+      one : (b : Bool)
+          → pick b (servedBy (serviceOf (stepOf t) q ns es area)) (untouched area (refused Unsound t)) .outcome
+          ≡ pick b (keptBy tablesOf (serviceOf (stepOf t) q ns es area .outcome)) (refused Unsound t)
+      one true = refl
+      one false = refl
+
+-- BEHIND AN OPEN GATE: the body of a service
+
+module _ (t : AllTables) (c : TaskNumber) (a : Admitted t c) (v : Verdict) (o : Outcome Step) (k : Made)
+    (e : told k ≡ bodyOf v t o) where
+  -- one that fails leaves the tables to the ending of its caller
+  pub fails-admitted : (what : Fault) → k .verdict ≡ Fail what → Admitted (k .tables) c
+  unfolding told bodyOf
+  fails-admitted what h =
+      let w : v ≡ Fail what = sym (ap (λ (x : Told). x .verdict) e) ∙ h in
+      subst (λ (u : AllTables). Admitted u c)
+      (sym (ap (λ (x : Told). x .outcome .tables) e ∙ ap (λ (x : Verdict). bodyOf x t o .outcome .tables) w)) a
+
+  settles : (u : Verdict) → settledAs (bodyOf u t o) c ≡ keptBy all.tablesOf (settled u (all.stepOf t) c o)
+  unfolding settledAs bodyOf settled
+  settles Go = refl
+  settles (Refuse why) = ap (refused why) (sym (admits.packed-tables t (admits.admitted-packed t c a)))
+  settles (Fail what) = refl
+
+  -- what the verdict comes to is what the rules say
+  pub settles-so : (s : Outcome Tables) → s ≡ keptBy inTables (settledAs (told k) c)
+      → s ≡ keptBy tablesOf (through (gateOf (all.stepOf t) c) (all.stepOf t) (settled v (all.stepOf t) c o))
+  unfolding through
+  settles-so s h =
+      rw (a .gate) (h ∙ ap (λ (x : Told). keptBy inTables (settledAs x c)) e ∙ ap (keptBy inTables) (settles v))
+
+  -- and so with codes
+  pub coded-so : (s : Outcome Tables) (area left written : List ℕ) → s ≡ keptBy inTables (settledAs (told k) c)
+      → left ≡ codesThrough Open v area written
+      → untouched left s ≡ servedBy (record {
+        outcome = through (gateOf (all.stepOf t) c) (all.stepOf t) (settled v (all.stepOf t) c o);
+        codes = codesThrough (gateOf (all.stepOf t) c) v area written;
+      })
+  coded-so s area left written h w =
+      let l = w ∙ ap (λ (g : Gate). codesThrough g v area written) (sym (a .gate)) in
+      λ i. record { outcome = settles-so s h i; codes = l i }
+
+-- a request q that is known to be k
+module _ (t : AllTables) (q k : Request) (e : q ≡ k) where
+  -- names its caller
+  pub behind-admits : (c : TaskNumber) → gateAt (all.stepOf t) k ≡ gateOf (all.stepOf t) c → Behind t q → Admitted t c
+  behind-admits c n b = record {
+    sound = b .sound;
+    gate = sym (ap (gateAt (all.stepOf t)) e ∙ n) ∙ b .gate;
+  }
+
+  pub known : (ns : Names) (es : Ecbs) (area : List ℕ) (o : Served Tables)
+      → o ≡ servedBy (serviceOf (all.stepOf t) k ns es area) → o ≡ servedBy (serviceOf (all.stepOf t) q ns es area)
+  known ns es area o h = h ∙ ap (λ (x : Request). servedBy (serviceOf (all.stepOf t) x ns es area)) (sym e)
 
 -- DISPATCH changes nothing
-pub dispatches : (t : Tables) (n : TaskNumber) (s : Outcome Tables) → Packed t → n .0 ≡ dispatched (t .family .places)
-    → s ≡ doneWith (TheNumber n) t → s ≡ keptBy tablesOf (dispatchBody (stepOf t))
-unfolding dispatchBody
-dispatches t n s p e a =
-    a ∙ ap (λ (m : ℕ). doneWith (TheNumber (record { 0 = m })) t) e
-    ∙ ap (doneWith (TheNumber (record { 0 = dispatched (t .family .places) }))) (sym (packed-tables t p))
+pub dispatches : (t : AllTables) (n : TaskNumber) (s : Outcome Tables) → Behind t Dispatch
+    → n .0 ≡ dispatched (t .tasks .places) → s ≡ doneWith (TheNumber n) (inTables t)
+    → s ≡ keptBy tablesOf (through (openGate (all.stepOf t)) (all.stepOf t) (dispatchBody (all.stepOf t)))
+unfolding dispatchBody through
+dispatches t n s b e a =
+    rw (b .gate) (a ∙ ap (λ (m : ℕ). doneWith (TheNumber (record { 0 = m })) (inTables t)) e
+    ∙ ap (λ (u : AllTables). doneWith (TheNumber (record { 0 = dispatched (t .tasks .places) })) (inTables u))
+    (sym (admits.sound-tables t (b .sound))))
 
 -- A FRESH START
 

@@ -1,46 +1,22 @@
 -- What a service leaves of sound tables is sound, and no second answer fits a promise.
-use mathlib.Core.Path.{_≡_, ap, _∙_}
-use mathlib.Core.Bool.{true, false}
+use mathlib.Core.Path.{_≡_, ap}
+use mathlib.Core.Bool.{true}
 use mathlib.Core.List.{List}
 use Prim.Native.Nat.{ℕ}
 use Rattle.lists.specs.Pick.{pick-true}
 use Rattle.kinds.proofs.Once.{reply-once}
 use Rattle.rules.specs.Steps.{Step, Outcome, Served, keptBy}
-use Rattle.rules.specs.Sound.{soundStep}
 use Rattle.rules.specs.Fresh.{freshOf}
 use Rattle.laws.specs.Failing.{Sound}
-use Rattle.laws.specs.Bounds.{sound-bounded}
 use Rattle.laws.specs.Kept.{fresh-sound}
-use Rattle.queue.specs.Queues.{storedEntries, packedEntries}
-use Rattle.queue.proofs.Views.{live-stored}
-use Rattle.queue.proofs.Passes.{stored-passes as queue-passes}
-use Rattle.storage.specs.Stored.{storedAreas, packedAreas}
-use Rattle.storage.specs.Kept.{live-stored as live-areas, stored-passes as areas-pass}
+use Rattle.tables.proofs.Admits as admits
 use Rattle.services.specs.Kept.{stepOf, tablesOf, said, saidWith, soundb, answered}
 use Rattle.services.specs.declared.Tables.{Tables}
 use Rattle.services.specs.declared.Answer.{Answer}
 
--- THE STEP AND THE TABLES
-
--- whatever step is kept shows again
-pub step-tables : (s : Step) → stepOf (tablesOf s) ≡ s
-step-tables s = λ i. record {
-  over = s .over;
-  code = s .code;
-  tasks = s .tasks;
-  queue = live-stored (s .queue) i;
-  ecbs = s .ecbs;
-  areas = live-areas (s .areas) i;
-}
-
--- a sound step is kept in sound tables
+-- A SOUND STEP is kept in sound tables
 pub sound-kept : (s : Step) → Sound s → soundb (tablesOf s) ≡ true
-unfolding soundb
-sound-kept s h =
-    let r = sound-bounded s h in
-    pick-true (packedEntries (storedEntries (s .queue))) _ false (queue-passes (s .queue) (r .queue) (r .names))
-    ∙ pick-true (packedAreas (storedAreas (s .areas))) _ false (areas-pass (s .areas) (r .areas))
-    ∙ ap soundStep (step-tables s) ∙ h
+sound-kept s h = admits.sound-kept s h
 
 -- WHAT IS ANSWERED on sound tables
 module _ (t : Tables) (f : Step → Outcome Step) (h : soundb t ≡ true) where

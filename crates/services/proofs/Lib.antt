@@ -1,9 +1,6 @@
 pub mod Glue
 pub mod Leaves
-pub mod Coded
 pub mod Reporting
-pub mod Serving
 pub mod Serves
 pub mod Demands
 pub mod Promises
-pub mod Settling

@@ -28,48 +28,48 @@ use Rattle.rings.specs.Listings.{reportReply, reportWritten}
 use Rattle.laws.specs.Running.{Running, running-parts}
 use Rattle.laws.specs.Admitted.{open-by}
 use Rattle.laws.specs.Numbered.{entries-good}
-use Rattle.laws.specs.Tested.{gated, gate-by}
+use Rattle.laws.specs.Tested.{gated as behindGate, gate-by}
 use Rattle.laws.specs.Reported.{report-keeps}
-use Rattle.services.specs.Kept.{Packed, stepOf, tablesOf, replied, saidWith, soundb, servedBy, answeredWith}
-use Rattle.services.specs.Kept.{openGateAt}
+use Rattle.tables.specs.Bodies.{replied}
+use Rattle.services.specs.Kept.{stepOf, tablesOf, saidWith, soundb, servedBy, answeredWith}
+use Rattle.services.specs.Serve.{gated}
 use Rattle.services.specs.declared.Tables.{Tables}
 use Rattle.services.specs.declared.Answer.{Answer}
-use Rattle.services.proofs.Glue.{sound-packed, sound-step, sound-tables, packed-tables, refused-kept, gate-opens}
-use Rattle.services.proofs.Coded.{served-shut}
+use Rattle.services.proofs.Glue.{sound-packed, sound-step, sound-tables, refused-kept, gate-opens, served-shut}
 use Rattle.services.proofs.Tables.stuck.Reads as stuck
 use Rattle.services.proofs.Tables.queues.Reads as queues
 
 -- THE GATE of a report is the open gate, with 104 behind it
 gate-behind : (s : Step) (r : ItemList) (space : ℕ) (g : Gate) → openGate s ≡ g
-    → reportGate s r space ≡ gateBy (gated g (firstOf (refuse ShortArea (ltb space (length (r .bytes))) ∷ [])))
+    → reportGate s r space ≡ gateBy (behindGate g (firstOf (refuse ShortArea (ltb space (length (r .bytes))) ∷ [])))
 unfolding reportGate openGate
 gate-behind s r space g e =
     let ts = refuse ShortArea (ltb space (length (r .bytes))) ∷ [] in
-    ap gateBy (gate-by (s .over) true false ts) ∙ ap (λ (h : Gate). gateBy (gated h (firstOf ts))) e
+    ap gateBy (gate-by (s .over) true false ts) ∙ ap (λ (h : Gate). gateBy (behindGate h (firstOf ts))) e
 
 -- WHAT AN OPEN GATE GIVES
 
-module _ (t : Tables) (g : Gate) (e : g ≡ openGateAt t) (h : g ≡ Open) where
+module _ (t : Tables) (g : Gate) (e : g ≡ gated (t .all) openGate) (h : g ≡ Open) where
   abbrev opened : (soundb t ≡ true) × (openGate (stepOf t) ≡ Open)
-  opened = gate-opens t openGate g e h
+  opened = gate-opens (t .all) openGate g e h
 
   report-running : Running (stepOf t)
   unfolding openGate
   report-running =
-      running-parts (stepOf t) (sound-step t (opened .0)) (open-by (t .over) true false (opened .1) .0)
+      running-parts (stepOf t) (sound-step t (opened .0)) (open-by (t .all .over) true false (opened .1) .0)
 
   -- as a report asks it: a place for each entry, and each of a task that has a number
-  pub report-room : t .queue .count ≤ mostEntries
+  pub report-room : t .all .queue .count ≤ mostEntries
   report-room = sound-packed t (opened .0) .queue .room
 
-  pub report-tasks : every (λ (x : Entry). taskGood (x .task)) (entriesIn (t .queue)) ≡ true
+  pub report-tasks : every (λ (x : Entry). taskGood (x .task)) (entriesIn (t .all .queue)) ≡ true
   report-tasks =
       let r = report-running in
-      entries-good (t .family .places) (entriesIn (t .queue)) (r .tasks .fits) (r .queue .entries)
+      entries-good (t .all .tasks .places) (entriesIn (t .all .queue)) (r .tasks .fits) (r .queue .entries)
 
 -- THE ANSWER
 
-module _ (t : Tables) (p : Packed t) (r : ItemList) (area : List ℕ) where
+module _ (t : Tables) (p : soundb t ≡ true) (r : ItemList) (area : List ℕ) where
   -- by whether the area is too short
   said-by : (short : Bool)
       → untouched (pick short area (writtenOn (r .bytes) area))
@@ -79,34 +79,34 @@ module _ (t : Tables) (p : Packed t) (r : ItemList) (area : List ℕ) where
   said-by true = ap (untouched area) (refused-kept t ShortArea p)
   said-by false =
       ap (λ (u : Tables). untouched (writtenOn (r .bytes) area) (doneWith (TheCount (r .items)) u))
-      (sym (packed-tables t p))
+      (sym (sound-tables t p))
 
 module _ (t : Tables) (area : List ℕ) (list : List Entry → ItemList) where
   -- an open gate
-  pub report-open : (g : Gate) → g ≡ openGateAt t → g ≡ Open
+  pub report-open : (g : Gate) → g ≡ gated (t .all) openGate → g ≡ Open
       → (s : Outcome Tables) (b : Reply) (left : List ℕ) → s ≡ replied b t
-      → b ≡ reportReply (list (entriesIn (t .queue))) (length area)
-      → left ≡ reportWritten (list (entriesIn (t .queue))) area
+      → b ≡ reportReply (list (entriesIn (t .all .queue))) (length area)
+      → left ≡ reportWritten (list (entriesIn (t .all .queue))) area
       → untouched left s ≡ answeredWith t area (reportOf list)
   unfolding answeredWith reportReply reportWritten
   report-open g e h s b left d k w =
-      let r = list (entriesIn (t .queue)) in
-      let o = gate-opens t openGate g e h in
+      let r = list (entriesIn (t .all .queue)) in
+      let o = gate-opens (t .all) openGate g e h in
       on-true (soundb t) _ _ _ (o .0)
       (ap (untouched left) (d ∙ ap (λ (x : Reply). replied x t) k)
       ∙ ap (λ (l : List ℕ). untouched l (replied (reportReply r (length area)) t)) w
-      ∙ said-by t (sound-packed t (o .0)) r area (ltb (length area) (length (r .bytes)))
+      ∙ said-by t (o .0) r area (ltb (length area) (length (r .bytes)))
       ∙ ap (λ (x : Gate). servedBy (reported x (stepOf t) r area))
       (sym (gate-behind (stepOf t) r (length area) Open (o .1))))
 
   -- a gate that is shut refuses, and no byte is written
-  pub report-shut : (g : Gate) (why : Refusal) → g ≡ openGateAt t → g ≡ Shut why → (s : Outcome Tables)
+  pub report-shut : (g : Gate) (why : Refusal) → g ≡ gated (t .all) openGate → g ≡ Shut why → (s : Outcome Tables)
       → s ≡ refused why t
       → untouched area s ≡ answeredWith t area (reportOf list)
   report-shut g why e h s a =
       served-shut t area openGate (reportOf list) s g why e h a
-      (λ k. ap (λ (x : Gate). reported x (stepOf t) (list (entriesIn (t .queue))) area)
-      (gate-behind (stepOf t) (list (entriesIn (t .queue))) (length area) (Shut why) k))
+      (λ k. ap (λ (x : Gate). reported x (stepOf t) (list (entriesIn (t .all .queue))) area)
+      (gate-behind (stepOf t) (list (entriesIn (t .all .queue))) (length area) (Shut why) k))
 
   -- NO TABLE CHANGES, whatever the number
 

@@ -17,7 +17,7 @@ use Rattle.laws.specs.Answering.{refusal-once, no-refusal-fault, refusal-untouc
 use Rattle.services.specs.Kept.{stepOf, servedBy, soundb, answered, answeredWith}
 use Rattle.services.specs.Serve.{servedOf}
 use Rattle.services.specs.declared.Tables.{Tables}
-use Rattle.services.proofs.Glue.{sound-packed, sound-step, refused-kept}
+use Rattle.services.proofs.Glue.{sound-step, refused-kept}
 use Rattle.services.proofs.Leaves.{sound-kept, answered-is}
 
 abbrev numberOf : Served Tables → ℕ
@@ -52,7 +52,7 @@ module _ (t : Tables) (a : Asked) where
           sound-serves h
           ∙ (ap servedBy (refusal-untouched (stepOf t) (a .request) (a .names) (a .ecbs) (a .area) why
           (sym (ap numberOf (sound-serves h)) ∙ e))
-          ∙ ap (untouched (a .area)) (sym (refused-kept t why (sound-packed t h))))
+          ∙ ap (untouched (a .area)) (sym (refused-kept t why h)))
       one false h =
           unsound-serves h
           ∙ ap (λ (w : Refusal). untouched (a .area) (refused w t))

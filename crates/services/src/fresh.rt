@@ -1,15 +1,18 @@
 // The fresh start.
 use crate::Answer;
 use crate::Tables;
+use crate::answering;
 use kinds::Condition;
 use kinds::MaybeEcb;
 use kinds::Refusal;
 use kinds::Reply;
 use kinds::Task;
 use kinds::TaskNumber;
+use tables::AllTables;
 ghost use mathlib.Core.Path.{_≡_};
 ghost use Rattle.rules.specs.Steps.{keptBy};
 ghost use Rattle.rules.specs.Fresh.{begunWith, freshGood, freshOf};
+ghost use Rattle.tables.specs.Tables.{tablesOf as allOf};
 ghost use Rattle.services.specs.Kept.{tablesOf, said};
 
 // 101: limit and dispatching priority are 0 to 255, dispatching not above limit.
@@ -21,25 +24,25 @@ fn fresh_good(limit: u16, dispatching: u16) -> bool
     a & b
 }
 
-impl Tables {
-    // A step that runs, with its first task.
-    fn begun(first: Task) -> Tables
-        ensures { λ r. ⌜ r ≡ tablesOf (begunWith first) ⌝ }
-    {
-        let mut t = Tables::over_with(0);
-        let f = t.family;
-        let g = family::with_place(f, TaskNumber(TaskNumber::LOWEST), first);
-        t.over = false;
-        t.family = g;
-        t
-    }
+// A step that runs, with its first task.
+fn begun(first: Task) -> AllTables
+    ensures { λ r. ⌜ r ≡ allOf (begunWith first) ⌝ }
+{
+    let mut t = tables::over_with(0);
+    let f = t.tasks;
+    let g = tasks::with_place(f, TaskNumber(TaskNumber::LOWEST), first);
+    t.over = false;
+    t.tasks = g;
+    t
+}
 
+impl Tables {
     // A fresh step, or 101 and a step already over with code 0.
     pub fn fresh(limit: u16, dispatching: u16) -> Answer
         ensures { λ r. ⌜ said r ≡ keptBy tablesOf (freshOf limit dispatching) ⌝ }
     {
         if !fresh_good(limit, dispatching) {
-            return Tables::over_with(0).refused(Refusal::OutOfRange);
+            return answering(tables::over_with(0), Reply::Refused(Refusal::OutOfRange));
         }
         let first = Task {
             condition: Condition::Ready,
@@ -48,10 +51,7 @@ impl Tables {
             dispatching: dispatching as u8,
             ecb: MaybeEcb::NoEcb,
         };
-        let t = Tables::begun(first);
-        Answer {
-            tables: t,
-            reply: Reply::Done,
-        }
+        let t = begun(first);
+        answering(t, Reply::Done)
     }
 }

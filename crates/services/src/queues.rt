@@ -1,7 +1,11 @@
 // Who stands in which queue.
 use crate::Answer;
+use crate::Caller;
 use crate::Tables;
+use crate::answering;
+use crate::gate;
 use kinds::Gate;
+use kinds::Reply;
 ghost use mathlib.Core.Path.{_≡_};
 ghost use Rattle.rules.specs.Reports.{queuesReport};
 ghost use Rattle.services.specs.Kept.{saidWith, answeredWith};
@@ -11,12 +15,13 @@ impl Tables {
     pub fn queues(self, list: &mut [u8]) -> Answer
         ensures { λ r. ⌜ saidWith r (now (list .exit)) ≡ answeredWith self (now (list .entry)) queuesReport ⌝ }
     {
-        match self.open_gate() {
-            Gate::Shut(why) => self.refused(why),
+        let t = self.all;
+        match gate(t, Caller::Nobody) {
+            Gate::Shut(why) => answering(t, Reply::Refused(why)),
             Gate::Open => {
-                let q = self.queue;
+                let q = t.queue;
                 let r = rings::reports::queues(q, list);
-                self.replying(r)
+                answering(t, r)
             }
         }
     }

@@ -1,17 +1,143 @@
-// One entry point: any tables, any request, any lists, any codes area.
+// One entry point: any tables, any request, any lists, any codes area. Every service goes this way.
 use crate::Answer;
+use crate::Caller;
 use crate::Tables;
+use crate::answering;
+use crate::gate;
+use crate::settled;
 use kinds::EcbList;
+use kinds::Gate;
 use kinds::NameList;
+use kinds::Reply;
 use kinds::Request;
+use tables::AllTables;
 ghost use mathlib.Core.Path.{_≡_};
+ghost use mathlib.Core.List.{[]};
+ghost use Rattle.kinds.specs.Beside.{noNames};
 ghost use Rattle.names.specs.Named.{namesIn};
-ghost use Rattle.events.specs.Blocks.{ecbsIn};
-ghost use Rattle.services.specs.Kept.{saidWith};
-ghost use Rattle.services.specs.Serve.{servedOf};
+ghost use Rattle.ecbs.specs.Blocks.{ecbsIn};
+ghost use Rattle.rules.specs.Serve.{serviceOf};
+ghost use Rattle.tables.specs.Tables.{stepOf};
+ghost use Rattle.services.specs.Kept.{said, saidWith, servedBy, answered};
+ghost use Rattle.services.specs.Serve.{servedOf, callerIn, Behind};
+
+// All but DISPATCH name the calling task.
+fn caller_of(request: Request) -> Caller
+    ensures { λ r. ⌜ r ≡ callerIn request ⌝ }
+{
+    match request {
+        Request::Attach {
+            caller,
+            lpmod: _,
+            dpmod: _,
+            ecb: _,
+        } => Caller::Named(caller),
+        Request::Detach { caller, task: _ } => Caller::Named(caller),
+        Request::End { caller, code: _ } => Caller::Named(caller),
+        Request::Abend {
+            caller,
+            code: _,
+            step: _,
+        } => Caller::Named(caller),
+        Request::Enq { caller, ret: _ } => Caller::Named(caller),
+        Request::Deq { caller, ret: _ } => Caller::Named(caller),
+        Request::Wait { caller, count: _ } => Caller::Named(caller),
+        Request::Post {
+            caller,
+            ecb: _,
+            code: _,
+        } => Caller::Named(caller),
+        Request::Clear { caller, ecb: _ } => Caller::Named(caller),
+        Request::Getmain {
+            caller,
+            length: _,
+            subpool: _,
+            conditional: _,
+        } => Caller::Named(caller),
+        Request::Freemain {
+            caller,
+            address: _,
+            length: _,
+            subpool: _,
+        } => Caller::Named(caller),
+        Request::Dispatch => Caller::Nobody,
+    }
+}
+
+// The service that the request names, behind an open gate.
+// Only ENQ and DEQ look at the names and the codes area, only WAIT at the ECBs.
+fn served(
+    t: AllTables,
+    request: Request,
+    names: NameList,
+    ecbs: EcbList,
+    codes: &mut [u8],
+) -> Answer
+    requires { ⌜ Behind t request ⌝ }
+    ensures { λ r. ⌜ saidWith r (now (codes .exit))
+        ≡ servedBy (serviceOf (stepOf t) request (namesIn names) (ecbsIn ecbs) (now (codes .entry))) ⌝ }
+{
+    match request {
+        Request::Attach {
+            caller,
+            lpmod,
+            dpmod,
+            ecb,
+        } => settled(
+            caller,
+            subtasks::attach::served(t, caller, lpmod, dpmod, ecb),
+        ),
+        Request::Detach { caller, task } => settled(
+            caller,
+            subtasks::detach::served(t, caller, task),
+        ),
+        Request::End { caller, code } => settled(caller, subtasks::end::served(t, caller, code)),
+        Request::Abend { caller, code, step } => settled(
+            caller,
+            subtasks::abend::served(t, caller, code, step),
+        ),
+        Request::Enq { caller, ret } => settled(
+            caller,
+            resources::enq::served(t, caller, ret, names, codes),
+        ),
+        Request::Deq { caller, ret } => settled(
+            caller,
+            resources::deq::served(t, caller, ret, names, codes),
+        ),
+        Request::Wait { caller, count } => settled(
+            caller,
+            events::wait::served(t, caller, ecbs, count),
+        ),
+        Request::Post { caller, ecb, code } => settled(caller, events::post::served(t, ecb, code)),
+        Request::Clear { caller, ecb } => settled(caller, events::clear::served(t, ecb)),
+        Request::Getmain {
+            caller,
+            length,
+            subpool,
+            conditional,
+        } => settled(
+            caller,
+            mainstorage::getmain::served(t, caller, length, subpool, conditional),
+        ),
+        Request::Freemain {
+            caller,
+            address,
+            length,
+            subpool,
+        } => settled(
+            caller,
+            mainstorage::freemain::served(t, caller, address, length, subpool),
+        ),
+        Request::Dispatch => {
+            let f = t.tasks;
+            let n = tasks::choice::dispatched(f);
+            answering(t, Reply::Dispatched(n))
+        }
+    }
+}
 
 impl Tables {
-    // The service that the request names. Only ENQ and DEQ look at the names and the codes area, only WAIT at the ECBs.
+    // 100, the gate, the service, its verdict.
     pub fn serve(self, request: Request, names: NameList, ecbs: EcbList, codes: &mut [u8]) -> Answer
         ensures { λ r. ⌜ saidWith r (now (codes .exit))
             ≡ servedOf self (record {
@@ -22,34 +148,19 @@ impl Tables {
                   (codes .entry);
             }) ⌝ }
     {
-        match request {
-            Request::Attach {
-                caller,
-                lpmod,
-                dpmod,
-                ecb,
-            } => self.attach(caller, lpmod, dpmod, ecb),
-            Request::Detach { caller, task } => self.detach(caller, task),
-            Request::End { caller, code } => self.end(caller, code),
-            Request::Abend { caller, code, step } => self.abend(caller, code, step),
-            Request::Enq { caller, ret } => self.enq(caller, ret, names, codes),
-            Request::Deq { caller, ret } => self.deq(caller, ret, names, codes),
-            Request::Wait { caller, count } => self.wait(caller, ecbs, count),
-            Request::Post { caller, ecb, code } => self.post(caller, ecb, code),
-            Request::Clear { caller, ecb } => self.clear(caller, ecb),
-            Request::Getmain {
-                caller,
-                length,
-                subpool,
-                conditional,
-            } => self.getmain(caller, length, subpool, conditional),
-            Request::Freemain {
-                caller,
-                address,
-                length,
-                subpool,
-            } => self.freemain(caller, address, length, subpool),
-            Request::Dispatch => self.dispatch(),
+        let t = self.all;
+        match gate(t, caller_of(request)) {
+            Gate::Shut(why) => answering(t, Reply::Refused(why)),
+            Gate::Open => served(t, request, names, ecbs, codes),
         }
+    }
+
+    // A request without names and codes.
+    pub(crate) fn plain(self, request: Request, ecbs: EcbList) -> Answer
+        ensures { λ r. ⌜ said r
+            ≡ answered self (λ s. serviceOf s request (namesIn noNames) (ecbsIn ecbs) [] .outcome) ⌝ }
+    {
+        let mut area = [0u8; 1];
+        self.serve(request, NameList::none(), ecbs, &mut area[..0])
     }
 }

@@ -1,7 +1,9 @@
 // The storage table: areas by rising address, packed.
+pub mod areas;
+
 use kinds::Area;
 ghost use mathlib.Core.Path.{_≡_};
-ghost use mathlib.Core.Bool.{not};
+ghost use mathlib.Core.Bool.{not, _&&_};
 ghost use mathlib.Core.List.{[]};
 ghost use Prim.Native.Nat.{_+_, _-_, _≤_, _<_};
 ghost use lib.Seq.{slice};
@@ -33,7 +35,7 @@ fn is_zero(a: Area) -> bool
     ensures { λ r. ⌜ r ≡ isZero a ⌝ }
 {
     let z = Area::zero();
-    areas::same_area(a, z)
+    crate::areas::same_area(a, z)
 }
 
 // The unused places are zero.
@@ -77,7 +79,7 @@ pub fn shapes_good(s: Storage) -> bool
     let mut i = 0;
     while i < n {
         let x = s.areas[i];
-        if !areas::shape_good(x) {
+        if !crate::areas::shape_good(x) {
             return false;
         }
         i += 1;
@@ -85,41 +87,21 @@ pub fn shapes_good(s: Storage) -> bool
     true
 }
 
-// Each area starts above the one before it, and so above all before it: neighbours are enough.
-pub fn areas_rise(s: Storage) -> bool
+// Each area starts above the one before it and is apart from it. So it is then with all before it: neighbours are
+// enough.
+pub fn areas_in_order(s: Storage) -> bool
     requires { ⌜ s .count ≤ mostAreas ⌝ }
-    ensures { λ r. ⌜ r ≡ areasRise (areasIn s) ⌝ }
+    ensures { λ r. ⌜ r ≡ (areasRise (areasIn s) && areasApart (areasIn s)) ⌝ }
 {
     let n = s.count;
     let mut i = 1;
     while i < n {
         let x = s.areas[i - 1];
         let y = s.areas[i];
-        if y.start.0 <= x.start.0 {
+        i += 1;
+        let far = crate::areas::apart(x, y);
+        if !((x.start.0 < y.start.0) & far) {
             return false;
-        }
-        i += 1;
-    }
-    true
-}
-
-// Each area against those behind it.
-pub fn areas_apart(s: Storage) -> bool
-    requires { ⌜ s .count ≤ mostAreas ⌝ }
-    ensures { λ r. ⌜ r ≡ areasApart (areasIn s) ⌝ }
-{
-    let n = s.count;
-    let mut i = 0;
-    while i < n {
-        let x = s.areas[i];
-        i += 1;
-        let mut j = i;
-        while j < n {
-            let y = s.areas[j];
-            if !areas::apart(x, y) {
-                return false;
-            }
-            j += 1;
         }
     }
     true
@@ -200,7 +182,7 @@ pub fn has_area(s: Storage, a: Area) -> bool
     let mut i = 0;
     while i < n {
         let x = s.areas[i];
-        if areas::same_area(a, x) {
+        if crate::areas::same_area(a, x) {
             return true;
         }
         i += 1;
@@ -218,7 +200,7 @@ pub fn without(s: Storage, a: Area) -> Storage
     let mut i = 0;
     while i < n {
         let x = s.areas[i];
-        if !areas::same_area(a, x) {
+        if !crate::areas::same_area(a, x) {
             let at = r.count;
             r.areas[at] = x;
             r.count = at + 1;

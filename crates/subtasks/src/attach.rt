@@ -1,5 +1,4 @@
-// What ATTACH does to the task table: its tests, and the place of a new task.
-use family::Family;
+// ATTACH: its tests, and the place of a new task.
 use kinds::Condition;
 use kinds::MaybeEcb;
 use kinds::Refusal;
@@ -7,18 +6,17 @@ use kinds::Reply;
 use kinds::Task;
 use kinds::TaskNumber;
 use kinds::Verdict;
+use tables::AllTables;
+use tables::made::Made;
+use tables::made::goes;
+use tables::made::stays;
+use tasks::TaskTable;
 ghost use mathlib.Core.Path.{_≡_};
 ghost use lib.Dec.{eqb};
-ghost use Rattle.kinds.specs.declared.replies.Reply.the-variants.{Done};
 ghost use Rattle.rules.specs.Attach.{newLimit, newDispatching, lowestFree, attachGood, attachVerdict, newTask};
-ghost use Rattle.subtasks.specs.Attaching.{attachedBy};
-
-// What ATTACH makes of the task table, which changes only where its verdict is to go on.
-pub struct Attached {
-    pub verdict: Verdict,
-    pub reply: Reply,
-    pub family: Family,
-}
+ghost use Rattle.rules.specs.Attach.{attachDone};
+ghost use Rattle.tables.specs.Tables.{stepOf, Admitted};
+ghost use Rattle.tables.specs.Bodies.{told, bodyOf};
 
 // The mother's limit less LPMOD, or 0 if that is negative.
 fn new_limit(limit: u8, lpmod: u16) -> u8
@@ -65,18 +63,18 @@ fn new_task(m: Task, c: TaskNumber, lpmod: u16, dpmod: i16, ecb: MaybeEcb) -> Ta
 fn attach_good(lpmod: u16, dpmod: i16, ecb: MaybeEcb) -> bool
     ensures { λ r. ⌜ r ≡ attachGood lpmod dpmod ecb ⌝ }
 {
-    Task::priority_good(lpmod) & Task::dpmod_good(dpmod) & places::ecb_good(ecb)
+    Task::priority_good(lpmod) & Task::dpmod_good(dpmod) & tasks::sound::ecb_good(ecb)
 }
 
 // 106.
-fn none_free(f: Family) -> bool
+fn none_free(f: TaskTable) -> bool
     ensures { λ r. ⌜ r ≡ eqb (lowestFree (f .places)) 0 ⌝ }
 {
-    let n = family::choice::lowest_free(f);
+    let n = tasks::choice::lowest_free(f);
     n.0 == 0
 }
 
-fn attach_verdict(f: Family, lpmod: u16, dpmod: i16, ecb: MaybeEcb) -> Verdict
+fn attach_verdict(f: TaskTable, lpmod: u16, dpmod: i16, ecb: MaybeEcb) -> Verdict
     ensures { λ r. ⌜ r ≡ attachVerdict (f .places) lpmod dpmod ecb ⌝ }
 {
     if !attach_good(lpmod, dpmod, ecb) {
@@ -88,33 +86,23 @@ fn attach_verdict(f: Family, lpmod: u16, dpmod: i16, ecb: MaybeEcb) -> Verdict
     Verdict::Go
 }
 
-fn unchanged(verdict: Verdict, f: Family) -> Attached
-    ensures { λ r. ⌜ r ≡ record { verdict = verdict; reply = Done; family = f } ⌝ }
-{
-    Attached {
-        verdict,
-        reply: Reply::Done,
-        family: f,
-    }
-}
-
 // ATTACH's tests; where they go on, the new task has the lowest free place, and the caller for its mother.
-pub fn attach(f: Family, caller: TaskNumber, lpmod: u16, dpmod: i16, ecb: MaybeEcb) -> Attached
-    ensures { λ r. ⌜ r ≡ attachedBy (attachVerdict (f .places) lpmod dpmod ecb) f caller lpmod dpmod ecb ⌝ }
+pub fn served(t: AllTables, caller: TaskNumber, lpmod: u16, dpmod: i16, ecb: MaybeEcb) -> Made
+    requires { ⌜ Admitted t caller ⌝ }
+    ensures { λ r. ⌜ told r ≡ bodyOf (attachVerdict (t .tasks .places) lpmod dpmod ecb) t
+        (attachDone (stepOf t) caller lpmod dpmod ecb) ⌝ }
 {
+    let f = t.tasks;
     match attach_verdict(f, lpmod, dpmod, ecb) {
         Verdict::Go => {
-            let n = family::choice::lowest_free(f);
-            let m = family::at(f, caller);
+            let n = tasks::choice::lowest_free(f);
+            let m = tasks::at(f, caller);
             let x = new_task(m, caller, lpmod, dpmod, ecb);
-            let g = family::with_place(f, n, x);
-            Attached {
-                verdict: Verdict::Go,
-                reply: Reply::Attached(n),
-                family: g,
-            }
+            let g = tasks::with_place(f, n, x);
+            let u = tables::put_tasks(t, g);
+            goes(Reply::Attached(n), u)
         }
-        Verdict::Refuse(why) => unchanged(Verdict::Refuse(why), f),
-        Verdict::Fail(what) => unchanged(Verdict::Fail(what), f),
+        Verdict::Refuse(why) => stays(Verdict::Refuse(why), t),
+        Verdict::Fail(what) => stays(Verdict::Fail(what), t),
     }
 }

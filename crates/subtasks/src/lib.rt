@@ -1,5 +1,5 @@
-// Attaching and ending: a task and those below it, on the task table.
+// ATTACH, DETACH, END and ABEND: a task and those below it.
+pub mod abend;
 pub mod attach;
-pub mod direct;
-pub mod ending;
-pub mod verdicts;
+pub mod detach;
+pub mod end;

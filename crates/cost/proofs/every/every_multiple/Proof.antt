@@ -6,8 +6,9 @@ use native.Mathlib.Omega.{arith}
 use Rattle.lists.specs.Arrays.{mapped-length}
 use Rattle.lists.specs.Loops.{yet-more}
 use Rattle.kinds.specs.Limits.{region}
-use Rattle.rooms.proofs.Searching.{Searching, Testing, search-first, none-beyond, none-at-end, tests-first, tests-on}
-use Rattle.rooms.proofs.Searching.{found}
+use Rattle.mainstorage.proofs.Searching.{Searching, Testing, search-first, none-beyond, none-at-end, tests-first}
+use Rattle.mainstorage.proofs.Searching.{tests-on}
+use Rattle.mainstorage.proofs.Searching.{found}
 use Rattle.cost.proofs.Multiples.{search-on}
 use borrow.Author.Needs.{needs}
 use Rattle.cost.proofs.every.every_multiple.Statement.{statement}

@@ -12,6 +12,8 @@ use Rattle.kinds.specs.Limits.{region}
 use Rattle.kinds.specs.Ranges.{between, lengthGood}
 use Rattle.storage.specs.Stored.{PackedAreas}
 use Rattle.storage.specs.Kept.{packed-kept}
+use Rattle.queue.proofs.Views.{packed-kept as queue-kept}
+use Rattle.tables.specs.Tables.{Packed}
 use Rattle.cost.proofs.searches.repeated.Statement.{statement}
 use Rattle.cost.proofs.searches.repeated.Tie as tie
 
@@ -21,10 +23,11 @@ unfolding between
 good n h k = pick-false _ _ _ (le-ltb n 1 h) ∙ le-leb n region k
 
 abbrev Inv-loop : tie.InvT-loop
-Inv-loop search n s most found₀ last₀ caller i₀ found last i = PackedAreas s × (i ≤ n) × (found ≤ i)
+Inv-loop search n t most found₀ last₀ s caller i₀ found last i =
+    (i ≤ n) × (found ≤ i) × Packed t × PackedAreas s
 
 abbrev μ-loop : tie.MeasureT-loop
-μ-loop search n s most found₀ last₀ caller i₀ found last i = n - i
+μ-loop search n t most found₀ last₀ s caller i₀ found last i = n - i
 
 packed-requires : tie.Need-packed-requires Inv-loop μ-loop
 packed-requires c κs = search needs
@@ -32,11 +35,21 @@ packed-requires c κs = search needs
 returns : tie.Need-returns Inv-loop μ-loop
 returns c = search needs
 
+packed-requires-2 : tie.Need-packed-requires-2 Inv-loop μ-loop
+packed-requires-2 c κs = search needs
+
+returns-2 : tie.Need-returns-2 Inv-loop μ-loop
+returns-2 c = search needs
+
 task-requires : tie.Need-task-requires Inv-loop μ-loop
 task-requires c κs = search needs
 
 loop-holds : tie.Need-loop-holds Inv-loop μ-loop
-loop-holds c = (packed-kept _ (search (needs, test-held-not)), omega arith, omega arith)
+loop-holds c =
+    let i = c .before .before .before .before in
+    let h = test-held-not _ _ (i .before .packed .ensures) (i .if1 .left) in
+    let k = packed-kept _ (test-held-not _ _ (c .before .before .packed2 .ensures) (c .before .if2 .left)) in
+    (omega arith, omega arith, record { queue = queue-kept _ h; storage = k }, k)
 
 sub-bytes : tie.Need-sub-bytes Inv-loop μ-loop
 sub-bytes c = omega arith
@@ -47,11 +60,13 @@ area-at-requires c κs = good _ (omega arith) (omega arith)
 enum-told : tie.Need-enum-told Inv-loop μ-loop
 enum-told c = search needs
 
-got-requires : tie.Need-got-requires Inv-loop μ-loop
-got-requires c κs = search needs
+served-requires : tie.Need-served-requires Inv-loop μ-loop
+served-requires c κs = search needs
 
 cast-x : tie.Need-cast-x Inv-loop μ-loop
-cast-x c = omega arith
+cast-x c =
+    let l = c .before .before .before .before .before .before .before in
+    omega (arith, l .loop .inv .0, l .before .before .before .before .before .before .before .before .fits .n)
 
 mul-x : tie.Need-mul-x Inv-loop μ-loop
 mul-x c = omega arith
@@ -87,13 +102,14 @@ loop-less : tie.Need-loop-less Inv-loop μ-loop
 loop-less c = omega arith
 
 loop-again : tie.Need-loop-again Inv-loop μ-loop
-loop-again c = (search needs, omega arith, omega arith)
+loop-again c = (omega arith, omega arith, search needs, search needs)
 
-returns-2 : tie.Need-returns-2 Inv-loop μ-loop
-returns-2 c = search needs
+returns-3 : tie.Need-returns-3 Inv-loop μ-loop
+returns-3 c = search needs
 
 pub repeated-spec : {M : Type 1} → statement M
 repeated-spec =
-    tie.close (tie.spec Inv-loop μ-loop packed-requires returns task-requires loop-holds sub-bytes area-at-requires
-    enum-told got-requires cast-x mul-x element-copy-out-x place-in-requires enum-told-2 lowest-requires enum-told-3
-    every-multiple-requires one-if-at-requires add-found add-i loop-less loop-again returns-2)
+    tie.close (tie.spec Inv-loop μ-loop packed-requires returns packed-requires-2 returns-2 task-requires loop-holds
+    sub-bytes area-at-requires
+    enum-told served-requires cast-x mul-x element-copy-out-x place-in-requires enum-told-2 lowest-requires enum-told-3
+    every-multiple-requires one-if-at-requires add-found add-i loop-less loop-again returns-3)

@@ -20,8 +20,8 @@ loop-holds c = omega arith
 filled-requires : tie.Need-filled-requires Inv-loop μ-loop
 filled-requires c κs = omega arith
 
-cut-requires : tie.Need-cut-requires Inv-loop μ-loop
-cut-requires c κs = search needs
+no-line-requires : tie.Need-no-line-requires Inv-loop μ-loop
+no-line-requires c κs = search needs
 
 same-length : tie.Need-same-length Inv-loop μ-loop
 same-length c = omega arith
@@ -73,6 +73,6 @@ returns-4 c = search needs
 
 pub longer-spec : {M : Type 1} → statement M
 longer-spec =
-    tie.close (tie.spec Inv-loop μ-loop loop-holds filled-requires cut-requires same-length returns last-requires
+    tie.close (tie.spec Inv-loop μ-loop loop-holds filled-requires no-line-requires same-length returns last-requires
     same-length-2 returns-2 add-line-end line-end-requires add-end add-t13 same-length-3 returns-3 loop-less loop-again
     rest-of-long-requires same-length-4 returns-4)

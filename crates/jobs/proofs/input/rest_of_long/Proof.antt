@@ -19,8 +19,8 @@ loop-holds c = omega arith
 read-some-requires : tie.Need-read-some-requires Inv-loop μ-loop
 read-some-requires c κs = search needs
 
-cut-requires : tie.Need-cut-requires Inv-loop μ-loop
-cut-requires c κs = search needs
+no-line-requires : tie.Need-no-line-requires Inv-loop μ-loop
+no-line-requires c κs = search needs
 
 same-length : tie.Need-same-length Inv-loop μ-loop
 same-length c = omega arith
@@ -72,6 +72,6 @@ returns-4 c = search needs
 
 pub rest-of-long-spec : {M : Type 1} → statement M
 rest-of-long-spec =
-    tie.close (tie.spec Inv-loop μ-loop loop-holds read-some-requires cut-requires same-length returns long-requires
-    same-length-2 returns-2 line-end-requires add-long long-requires-2 same-length-3 returns-3 sub-turns loop-less
-    loop-again long-requires-3 same-length-4 returns-4)
+    tie.close (tie.spec Inv-loop μ-loop loop-holds read-some-requires no-line-requires same-length returns
+    long-requires same-length-2 returns-2 line-end-requires add-long long-requires-2 same-length-3 returns-3
+    sub-turns loop-less loop-again long-requires-3 same-length-4 returns-4)

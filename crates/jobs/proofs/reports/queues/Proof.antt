@@ -17,8 +17,8 @@ slice-aggregate-queues c = simp length-take (omega arith)
 queues-requires : tie.Need-queues-requires
 queues-requires c κs = search needs
 
-put-reply-requires : tie.Need-put-reply-requires
-put-reply-requires c κs = search needs
+answer-requires : tie.Need-answer-requires
+answer-requires c κs = search needs
 
 besides-requires : tie.Need-besides-requires
 besides-requires c κs = search needs
@@ -34,5 +34,5 @@ returns c = search needs
 
 pub queues-spec : {M : Type 1} → statement M
 queues-spec =
-    tie.close (tie.spec mul-length array-borrow-prefix-list slice-aggregate-queues queues-requires put-reply-requires
+    tie.close (tie.spec mul-length array-borrow-prefix-list slice-aggregate-queues queues-requires answer-requires
     besides-requires byte-requires put-queues-requires returns)

@@ -17,8 +17,8 @@ slice-aggregate-stuck c = simp length-take (omega arith)
 stuck-requires : tie.Need-stuck-requires
 stuck-requires c κs = search needs
 
-put-reply-requires : tie.Need-put-reply-requires
-put-reply-requires c κs = search needs
+answer-requires : tie.Need-answer-requires
+answer-requires c κs = search needs
 
 besides-requires : tie.Need-besides-requires
 besides-requires c κs = search needs
@@ -34,5 +34,5 @@ returns c = search needs
 
 pub stuck-spec : {M : Type 1} → statement M
 stuck-spec =
-    tie.close (tie.spec mul-length array-borrow-prefix-list slice-aggregate-stuck stuck-requires put-reply-requires
+    tie.close (tie.spec mul-length array-borrow-prefix-list slice-aggregate-stuck stuck-requires answer-requires
     besides-requires byte-requires put-stuck-requires returns)

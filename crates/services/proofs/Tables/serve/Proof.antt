@@ -1,195 +1,52 @@
--- Case by case of the request: the contract of the service that it names.
-use mir.Syntax.{w16}
-use mir.Facts.{toZ-ofZ}
-use mathlib.Core.Path.{refl}
-use Rattle.rules.specs.Serve.{serviceOf}
-use Rattle.services.specs.Serve.{servedOf}
-use Rattle.services.proofs.Serving.{serves, serves-plain, serves-signed}
-use borrow.Author.Needs.{needs, sfits-of}
+-- A shut gate refuses; behind an open one the contract of `served` is cited.
+use mathlib.Core.Path.{_≡_}
+use Rattle.kinds.specs.declared.replies.Gate.the-variants.{Open}
+use Rattle.services.proofs.Glue.{gate-opens, gate-behind, serve-shut, serve-open}
+use borrow.Author.Needs.{needs}
 use Rattle.services.proofs.Tables.serve.Statement.{statement}
 use Rattle.services.proofs.Tables.serve.Tie as tie
 
-enum-known-request : tie.Need-enum-known-request
-enum-known-request c = search needs
+caller-of-requires : tie.Need-caller-of-requires
+caller-of-requires c κs = search needs
 
-attach-requires : tie.Need-attach-requires
-attach-requires c κs = search needs
+gate-requires : tie.Need-gate-requires
+gate-requires c κs = search needs
 
-enum-known-request-2 : tie.Need-enum-known-request-2
-enum-known-request-2 c = search needs
+enum-known-why : tie.Need-enum-known-why
+enum-known-why c = search needs
 
-detach-requires : tie.Need-detach-requires
-detach-requires c κs = search needs
-
-enum-known-request-3 : tie.Need-enum-known-request-3
-enum-known-request-3 c = search needs
-
-end-requires : tie.Need-end-requires
-end-requires c κs = search needs
-
-enum-known-request-4 : tie.Need-enum-known-request-4
-enum-known-request-4 c = search needs
-
-abend-requires : tie.Need-abend-requires
-abend-requires c κs = search needs
-
-enum-known-request-5 : tie.Need-enum-known-request-5
-enum-known-request-5 c = search needs
-
-enq-requires : tie.Need-enq-requires
-enq-requires c κs = search needs
-
-enum-known-request-6 : tie.Need-enum-known-request-6
-enum-known-request-6 c = search needs
-
-deq-requires : tie.Need-deq-requires
-deq-requires c κs = search needs
-
-enum-known-request-7 : tie.Need-enum-known-request-7
-enum-known-request-7 c = search needs
-
-wait-requires : tie.Need-wait-requires
-wait-requires c κs = search needs
-
-enum-known-request-8 : tie.Need-enum-known-request-8
-enum-known-request-8 c = search needs
-
-post-requires : tie.Need-post-requires
-post-requires c κs = search needs
-
-enum-known-request-9 : tie.Need-enum-known-request-9
-enum-known-request-9 c = search needs
-
-clear-requires : tie.Need-clear-requires
-clear-requires c κs = search needs
-
-enum-known-request-10 : tie.Need-enum-known-request-10
-enum-known-request-10 c = search needs
-
-getmain-requires : tie.Need-getmain-requires
-getmain-requires c κs = search needs
-
-enum-known-request-11 : tie.Need-enum-known-request-11
-enum-known-request-11 c = search needs
-
-freemain-requires : tie.Need-freemain-requires
-freemain-requires c κs = search needs
+answering-requires : tie.Need-answering-requires
+answering-requires c κs = search needs
 
 enum-told : tie.Need-enum-told
 enum-told c = search needs
 
-dispatch-requires : tie.Need-dispatch-requires
-dispatch-requires c κs = search needs
+served-requires : tie.Need-served-requires
+served-requires c κs =
+    let g = c .before .before .before in
+    let a = g .before .before .before .before .args in
+    let k : g .gate .result ≡ Open = search needs in
+    gate-behind (a .self .all) (a .request) _ _ (g .before .caller-of .ensures) (g .gate .ensures) k
 
 returns : tie.Need-returns
-unfolding servedOf serviceOf
 returns c =
-    let g = c .before .before .before .before .before .args in
-    let a = g in
-    let x = c .before .before .request .given .0 in
-    serves-signed (a .self) _ _ _ _ (x .0) (x .1 .0) (x .1 .1 .0) _ (x .1 .1 .1 .0)
-    (c .before .before .request .given .1)
-    (toZ-ofZ {w = w16} {z = x .1 .1 .0} (sfits-of (c .before .known-told .given .1 .1 .0 .1))) (c .attach .result)
-    (c .attach .ensures)
-
-returns-2 : tie.Need-returns-2
-unfolding servedOf serviceOf
-returns-2 c =
-    let g = c .before .before .before .before .before .args in
-    let a = g in
-    serves-plain (a .self) _ _ _ _ _ ((c .before .before .request2) .given .1) (c .detach .result) _
-    (c .detach .ensures) refl
-
-returns-3 : tie.Need-returns-3
-unfolding servedOf serviceOf
-returns-3 c =
-    let g = c .before .before .before .before .before .args in
-    let a = g in
-    serves-plain (a .self) _ _ _ _ _ ((c .before .before .request3) .given .1) (c .end .result) _ (c .end .ensures) refl
-
-returns-4 : tie.Need-returns-4
-unfolding servedOf serviceOf
-returns-4 c =
-    let g = c .before .before .before .before .before .args in
-    let a = g in
-    serves-plain (a .self) _ _ _ _ _ ((c .before .before .request4) .given .1) (c .abend .result) _
-    (c .abend .ensures) refl
+    let g = c .before .before .before .before in
+    let a = g .before .before .before .before .args in
+    serve-shut (a .self) (a .request) _ _ _ _ _ _ _ (g .before .caller-of .ensures) (g .gate .ensures)
+    (c .before .before .why .given .1) (c .answering .ensures)
 
 same-length : tie.Need-same-length
 same-length c = search needs
 
-returns-5 : tie.Need-returns-5
-unfolding servedOf serviceOf
-returns-5 c =
-    let g = c .before .before .before .before .before .before .before .before .args in
-    let a = g in
-    serves (a .self) _ _ _ _ _ ((c .before .before .before .before .before .request5) .given .1) _
-    ((c .before .before .enq) .ensures)
-
-same-length-2 : tie.Need-same-length-2
-same-length-2 c = search needs
-
-returns-6 : tie.Need-returns-6
-unfolding servedOf serviceOf
-returns-6 c =
-    let g = c .before .before .before .before .before .before .before .before .args in
-    let a = g in
-    serves (a .self) _ _ _ _ _ ((c .before .before .before .before .before .request6) .given .1) _
-    ((c .before .before .deq) .ensures)
-
-returns-7 : tie.Need-returns-7
-unfolding servedOf serviceOf
-returns-7 c =
-    let g = c .before .before .before .before .before .args in
-    let a = g in
-    serves-plain (a .self) _ _ _ _ _ ((c .before .before .request7) .given .1) (c .wait .result) _
-    (c .wait .ensures) refl
-
-returns-8 : tie.Need-returns-8
-unfolding servedOf serviceOf
-returns-8 c =
-    let g = c .before .before .before .before .before .args in
-    let a = g in
-    serves-plain (a .self) _ _ _ _ _ ((c .before .before .request8) .given .1) (c .post .result) _
-    (c .post .ensures) refl
-
-returns-9 : tie.Need-returns-9
-unfolding servedOf serviceOf
-returns-9 c =
-    let g = c .before .before .before .before .before .args in
-    let a = g in
-    serves-plain (a .self) _ _ _ _ _ ((c .before .before .request9) .given .1) (c .clear .result) _
-    (c .clear .ensures) refl
-
-returns-10 : tie.Need-returns-10
-unfolding servedOf serviceOf
-returns-10 c =
-    let g = c .before .before .before .before .before .args in
-    let a = g in
-    serves-plain (a .self) _ _ _ _ _ ((c .before .before .request10) .given .1) (c .getmain .result) _
-    (c .getmain .ensures) refl
-
-returns-11 : tie.Need-returns-11
-unfolding servedOf serviceOf
-returns-11 c =
-    let g = c .before .before .before .before .before .args in
-    let a = g in
-    serves-plain (a .self) _ _ _ _ _ ((c .before .before .request11) .given .1) (c .freemain .result) _
-    (c .freemain .ensures) refl
-
-returns-12 : tie.Need-returns-12
-unfolding servedOf serviceOf
-returns-12 c =
-    let g = c .before .before .before .before .args in
-    let a = g in
-    serves-plain (a .self) _ _ _ _ _ ((c .before .enum-told) .given .1) (c .dispatch .result) _
-    (c .dispatch .ensures) refl
+returns-2 : tie.Need-returns-2
+returns-2 c =
+    let g = c .before .before .before .before .before .before in
+    let a = g .before .before .before .before .args in
+    let k : g .gate .result ≡ Open = search needs in
+    serve-open (a .self) (a .request) _ _ _ _ (gate-opens (a .self .all) _ _ (g .gate .ensures) k .0)
+    (c .before .before .served .ensures)
 
 pub serve-spec : {M : Type 1} → statement M
 serve-spec =
-    tie.close (tie.spec enum-known-request attach-requires enum-known-request-2 detach-requires enum-known-request-3
-    end-requires enum-known-request-4 abend-requires enum-known-request-5 enq-requires enum-known-request-6
-    deq-requires enum-known-request-7 wait-requires enum-known-request-8 post-requires enum-known-request-9
-    clear-requires enum-known-request-10 getmain-requires enum-known-request-11 freemain-requires enum-told
-    dispatch-requires returns returns-2 returns-3 returns-4 same-length returns-5 same-length-2 returns-6 returns-7
-    returns-8 returns-9 returns-10 returns-11 returns-12)
+    tie.close (tie.spec caller-of-requires gate-requires enum-known-why answering-requires enum-told served-requires
+    returns same-length returns-2)

@@ -1,47 +1,16 @@
--- A gate that is shut refuses; behind an open one the body's answer is the rules'.
-use Rattle.rules.specs.Steps.{Step}
-use Rattle.rules.specs.Admission.{gateOf}
-use Rattle.rules.specs.Wait.{waitBody}
-use Rattle.events.specs.Blocks.{ecbsIn}
-use Rattle.services.proofs.Glue.{gate-admits, at-open, at-shut}
+-- The one path, at the request that names the service.
+use Rattle.rules.specs.Serve.{serviceOf}
 use borrow.Author.Needs.{needs}
 use Rattle.services.proofs.Tables.wait.Statement.{statement}
 use Rattle.services.proofs.Tables.wait.Tie as tie
 
-gate-requires : tie.Need-gate-requires
-gate-requires c κs = search needs
-
-enum-known-why : tie.Need-enum-known-why
-enum-known-why c = search needs
-
-refused-requires : tie.Need-refused-requires
-refused-requires c κs = search needs
-
-enum-told : tie.Need-enum-told
-enum-told c = search needs
-
-wait-body-requires : tie.Need-wait-body-requires
-wait-body-requires c κs =
-    let g = c .before .before .before .args in
-    let a = g in
-    gate-admits (a .self) (a .caller) _ ((c .before .before .gate) .ensures) (search needs)
+plain-requires : tie.Need-plain-requires
+plain-requires c κs = search needs
 
 returns : tie.Need-returns
-returns c =
-    let g = c .before .before .before .before .before .args in
-    let a = g in
-    at-shut (a .self) (λ (s : Step). gateOf s (a .caller))
-    (λ (s : Step). waitBody s (a .caller) (ecbsIn (a .ecbs)) (a .count)) _ _ _
-    ((c .before .before .before .before .gate) .ensures) ((c .before .before .why) .given .1) (c .refused .ensures)
-
-returns-2 : tie.Need-returns-2
-returns-2 c =
-    let g = c .before .before .before .before .args in
-    let a = g in
-    at-open (a .self) (λ (s : Step). gateOf s (a .caller))
-    (λ (s : Step). waitBody s (a .caller) (ecbsIn (a .ecbs)) (a .count)) _ _
-    ((c .before .before .before .gate) .ensures) (search needs) (c .wait-body .ensures)
+unfolding serviceOf
+returns c = c .plain .ensures
 
 pub wait-spec : {M : Type 1} → statement M
 wait-spec =
-    tie.close (tie.spec gate-requires enum-known-why refused-requires enum-told wait-body-requires returns returns-2)
+    tie.close (tie.spec plain-requires returns)

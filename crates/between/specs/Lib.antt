@@ -1,0 +1,5 @@
+pub mod Waiting
+pub mod Posts
+pub mod Sound
+pub mod Steps
+pub mod Owners

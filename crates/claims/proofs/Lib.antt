@@ -1,3 +1,0 @@
-pub mod Coding
-pub mod Changes
-pub mod Promises

@@ -1,4 +1,0 @@
-pub mod Builds
-pub mod Looking
-pub mod Exclusive
-pub mod Promises

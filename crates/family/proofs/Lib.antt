@@ -1,3 +1,0 @@
-pub mod Chains
-pub mod Reaching
-pub mod Promises

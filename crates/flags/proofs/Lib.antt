@@ -1,4 +1,0 @@
-pub mod Filled
-pub mod Flagged
-pub mod Soles
-pub mod Promises

@@ -1,0 +1,791 @@
+-- Wrong answers that the contracts of `resources` rule out.
+use mathlib.Core.Path.{refl, _≡_}
+use mathlib.Core.Bool.{Bool, true, false, not, _&&_}
+use mathlib.Core.List.{List, [], _∷_, map}
+use Prim.Native.Nat.{ℕ, _-_}
+use native.Mathlib.Omega.{arith}
+use lib.Dec.{eqb, leb, ltb}
+use lib.ListN.{length, take, getD, replicate}
+use denote.Ref.{RefT, now, at-last}
+use Rattle.lists.specs.Pick.{pick}
+use Rattle.lists.specs.Lists.{every, some, none}
+use Rattle.lists.specs.Tables.{padded}
+use Rattle.kinds.specs.Limits.{longestList, mostEntries}
+use Rattle.kinds.specs.declared.numbers.TaskNumber.{TaskNumber}
+use Rattle.kinds.specs.declared.names.NameList.{NameList}
+use Rattle.kinds.specs.declared.requests.Ret.{Ret}
+use Rattle.kinds.specs.declared.requests.Ret.the-variants.{None, Test, Use, Have, Chng}
+use Rattle.kinds.specs.declared.requests.DeqRet.{DeqRet}
+use Rattle.kinds.specs.declared.requests.DeqRet.the-variants.{None as DeqNone, Have as DeqHave}
+use Rattle.kinds.specs.declared.replies.Verdict.{Verdict}
+use Rattle.kinds.specs.declared.replies.Refusal.the-variants.{ShortArea, NoEntryFree}
+use Rattle.kinds.specs.declared.replies.Fault.the-variants.{DuplicateEnq, DeqWithoutEntry}
+use Rattle.kinds.specs.Tasks.{isReady, inResourceWait}
+use Rattle.kinds.specs.Replies.{numberOf}
+use Rattle.kinds.specs.declared.replies.Gate.the-variants.{Open}
+use Rattle.kinds.specs.declared.replies.Reply.the-variants.{Done}
+use Rattle.rules.specs.Names.{Resource, Ask, namesGood, asksSystem, namesOf as resources, Names, sameName}
+use Rattle.rules.specs.Control.{Entry, hasEntry, available, holding}
+use Rattle.rules.specs.Tests.{refuse, fail, firstOf}
+use Rattle.rules.specs.Codes.{allZero, writtenOn}
+use Rattle.rules.specs.Table.{named, shr, exc, counted}
+use Rattle.rules.specs.Enq.{entryFor, enqGood, duplicated, toQueue, tooFewFree, enqCode, enqCodes, enqCodesDue}
+use Rattle.rules.specs.Enq.{enqVerdict, withTail, enqWritten}
+use Rattle.rules.specs.Deq.{deqCodes, deqCodesDue, unentered, deqVerdict, deqWritten}
+use Rattle.rules.specs.SystemCases.{beginning, sysdsn, sysdsnWith}
+use Rattle.rules.specs.Family.{conditionOf}
+use Rattle.rules.specs.Steps.{Step, Outcome, withTasks, withQueue}
+use Rattle.rules.specs.Sound.{soundStep}
+use Rattle.rules.specs.Admission.{gateOf, onGo, codesThrough}
+use Rattle.laws.specs.Running.{running-parts}
+use Rattle.history.specs.Samples.{x, y, start}
+use Rattle.names.specs.Named.{namesIn}
+use Rattle.tasks.specs.TaskTables.{taskTableOf}
+use Rattle.tasks.specs.declared.TaskTable.{TaskTable}
+use Rattle.queue.specs.Queues.{entriesIn, storedEntries, PackedEntries}
+use Rattle.queue.specs.declared.Queue.{Queue}
+use Rattle.resources.specs.Coding.{codesOf}
+use Rattle.resources.specs.Looking.{looksAs, enqLooks, deqLooks, enqFound, deqFound}
+use Rattle.resources.specs.Serving.{Admits, Both, requeuedTo, replyTo, enqBy, deqBy}
+use Rattle.resources.specs.declared.codes.Codes.{Codes}
+use Rattle.resources.specs.declared.looks.Looks.{Looks}
+use Rattle.resources.specs.declared.Found.{Found}
+use Rattle.resources.specs.declared.Served.{Served}
+use Rattle.resources.proofs.codes.enq_codes_due.Reads as enq-codes-due
+use Rattle.resources.proofs.codes.deq_codes_due.Reads as deq-codes-due
+use Rattle.resources.proofs.codes.write.Reads as write
+use Rattle.resources.proofs.looks.enq_looks.Reads as enq-looks
+use Rattle.resources.proofs.looks.deq_looks.Reads as deq-looks
+use Rattle.resources.proofs.enq.enq_found.Reads as enq-found
+use Rattle.resources.proofs.deq.deq_found.Reads as deq-found
+use Rattle.resources.proofs.enq.enq_on_queue.Reads as enq-on-queue
+use Rattle.resources.proofs.deq.deq_on_queue.Reads as deq-on-queue
+use Rattle.impostors.specs.Fitting.{_⊗_, fits-Codes, fits-DeqRet, fits-NameList, fits-Queue, fits-Ret}
+use Rattle.impostors.specs.Fitting.{fits-TaskNumber, fits-end, fits-lent, fits-u32, fits-usize, fits-TaskTable}
+use Rattle.impostors.specs.Opened.{tables-open}
+use Rattle.impostors.specs.Samples.{task, namesOf, after, z, owned as ownedRun, awaited as awaitedRun}
+use Rattle.impostors.specs.Samples.{sharedByOne, sharesAndOwns}
+use Rattle.impostors.specs.Wrong.{RuledOut, wrong-at, RuledOutWith, wrong-with, wrong-result, wrong-area}
+use Rattle.impostors.specs.Parts.{ownerAndWaiter, lent, verdictNumber}
+use Rattle.impostors.specs.Verdicts.{Judge, bad, system, short, afterCodes, keepingOff, firstOnly, twoBytes}
+use Rattle.impostors.specs.Verdicts.{inMinorToo, byName, unlessTest, after104, before101, deqKeepingOff}
+use Rattle.impostors.specs.Haves.{fullBy, wholeList, noneFree, ifHave, Doing, allOrNothing, skippedQueued}
+use Rattle.impostors.specs.Haves.{skipsNothing, lastFirst, skippedMadeExclusive, neverWaits, answersZero}
+
+-- the code behind n others
+abbrev code : ℕ → Codes → ℕ
+code n k = getD (k .bytes) n 0
+
+abbrev codes : List ℕ → Codes
+codes l = record { bytes = padded longestList 0 l }
+
+-- CODES
+
+-- codes are due under NONE too
+pub enq-codes-due-under-none : RuledOut (λ k. fits-Ret ⊗ fits-end) enq-codes-due.Pre enq-codes-due.Post (λ k a. true)
+unfolding tables-open
+enq-codes-due-under-none = wrong-at tt (None, tt) refl tt (λ b. b) refl refl
+
+-- the RET kinds that never queue
+abbrev queuesNothing : Ret → Bool
+queuesNothing None = false
+queuesNothing Test = true
+queuesNothing Use = false
+queuesNothing Have = false
+queuesNothing Chng = true
+
+-- codes are due only where nothing is queued, and so not under USE
+pub enq-codes-due-where-nothing-is-queued : RuledOut (λ k. fits-Ret ⊗ fits-end) enq-codes-due.Pre enq-codes-due.Post
+    (λ k a. queuesNothing (a .0))
+unfolding tables-open
+enq-codes-due-where-nothing-is-queued = wrong-at tt (Use, tt) refl tt not refl refl
+
+-- codes are due under NONE too
+pub deq-codes-due-under-none : RuledOut (λ k. fits-DeqRet ⊗ fits-end) deq-codes-due.Pre deq-codes-due.Post (λ k a. true)
+unfolding tables-open
+deq-codes-due-under-none = wrong-at tt (DeqNone, tt) refl tt (λ b. b) refl refl
+
+-- no DEQ gives codes
+pub deq-codes-due-never : RuledOut (λ k. fits-DeqRet ⊗ fits-end) deq-codes-due.Pre deq-codes-due.Post (λ k a. false)
+unfolding tables-open
+deq-codes-due-never = wrong-at tt (DeqHave, tt) refl tt not refl refl
+
+-- the area holds these bytes at the end
+abbrev leaves : Codes × (ℕ × (RefT (List ℕ) × Unit {0})) → List ℕ
+    → Unit {0} × (Codes × (ℕ × (RefT (List ℕ) × Unit {0})))
+leaves a l = (tt, (a .0, (a .1 .0, (at-last (a .1 .1 .0) l, tt))))
+
+-- all 16 codes are written, where the list has one name
+pub write-all-16 : RuledOutWith (λ k. fits-Codes ⊗ fits-u32 ⊗ fits-lent ⊗ fits-end) write.Pre write.Post
+    (λ k a. leaves a (writtenOn (a .0 .bytes) (now (a .1 .1 .0))))
+unfolding tables-open
+write-all-16 =
+    wrong-with ([], tt) (codes (8 ∷ 4 ∷ []), (1, (lent (replicate 16 238), tt))) refl (omega arith, omega arith)
+    (λ l. eqb (getD l 1 0) 4) refl refl
+
+-- what is behind the codes becomes 0
+pub write-zeros-behind : RuledOutWith (λ k. fits-Codes ⊗ fits-u32 ⊗ fits-lent ⊗ fits-end) write.Pre write.Post
+    (λ k a. leaves a (padded (length (now (a .1 .1 .0))) 0 (take (a .1 .0) (a .0 .bytes))))
+unfolding tables-open
+write-zeros-behind =
+    wrong-with ([], tt) (codes (8 ∷ []), (1, (lent (238 ∷ 238 ∷ []), tt))) refl (omega arith, omega arith)
+    (λ l. eqb (getD l 1 0) 0) refl refl
+
+-- LOOKS
+
+-- what is looked at, and the entries, the caller, the RET kind and the names of it
+abbrev Looked : Type 0
+Looked = Queue × (TaskNumber × (Ret × (NameList × Unit {0})))
+
+abbrev fits-Looked : Looked → Bool
+fits-Looked = fits-Queue ⊗ fits-TaskNumber ⊗ fits-Ret ⊗ fits-NameList ⊗ fits-end
+
+abbrev looked : {R : Type 0} → (Ret → List Entry → ℕ → Names → R) → Looked → R
+looked f a = f (a .1 .1 .0) (entriesIn (a .0)) (a .1 .0 .0) (namesIn (a .1 .1 .1 .0))
+
+-- other codes, and whether they are all 0
+abbrev coding : Looks → List ℕ → Looks
+coding k l = record { has = k .has; codes = codesOf l; zero = allZero l }
+
+-- 4 goes before 8, under TEST and USE
+abbrev fourFirst : Ret → List Entry → ℕ → Ask → ℕ
+fourFirst None q c w = enqCode None q c w
+fourFirst Test q c w = pick (available q w) (enqCode Test q c w) 4
+fourFirst Use q c w = pick (available q w) (enqCode Use q c w) 4
+fourFirst Have q c w = enqCode Have q c w
+fourFirst Chng q c w = enqCode Chng q c w
+
+-- task 1 tests x, which it owns
+pub enq-looks-4-before-8 : RuledOut (λ k. fits-Looked) enq-looks.Pre enq-looks.Post
+    (λ k a. looked (λ ret q c l. coding (enqLooks ret q c l) (map (fourFirst ret q c) (l .asks))) a)
+unfolding tables-open
+enq-looks-4-before-8 =
+    wrong-at tt (storedEntries ownerAndWaiter, (task 1, (Test, (namesOf (exc x ∷ []), tt)))) refl
+    (omega arith, omega arith)
+    (λ k. eqb (code 0 (k .codes)) 4) refl refl
+
+-- HAVE asks whether the name is available, as USE does
+abbrev asUse : Ret → Ret
+asUse None = None
+asUse Test = Test
+asUse Use = Use
+asUse Have = Use
+asUse Chng = Chng
+
+-- 3 asks for x, which task 1 owns
+pub enq-looks-have-as-use : RuledOut (λ k. fits-Looked) enq-looks.Pre enq-looks.Post
+    (λ k a. looked (λ ret q c l. coding (enqLooks ret q c l) (enqCodes (asUse ret) q c l)) a)
+unfolding tables-open
+enq-looks-have-as-use =
+    wrong-at tt (storedEntries ownerAndWaiter, (task 3, (Have, (namesOf (exc x ∷ []), tt)))) refl
+    (omega arith, omega arith)
+    (λ k. eqb (code 0 (k .codes)) 4) refl refl
+
+-- the codes past the count are 8
+pub enq-looks-8-past-the-count : RuledOut (λ k. fits-Looked) enq-looks.Pre enq-looks.Post
+    (λ k a. looked (λ ret q c l. record {
+      has = enqLooks ret q c l .has;
+      codes = record { bytes = padded longestList 8 (enqCodes ret q c l) };
+      zero = enqLooks ret q c l .zero;
+    }) a)
+unfolding tables-open
+enq-looks-8-past-the-count =
+    wrong-at tt (storedEntries ownerAndWaiter, (task 3, (Have, (namesOf (exc x ∷ []), tt)))) refl
+    (omega arith, omega arith)
+    (λ k. eqb (code 1 (k .codes)) 8) refl refl
+
+-- NONE looks for nothing: task 1 asks for x, which it owns
+pub enq-looks-none-without-a-look : RuledOut (λ k. fits-Looked) enq-looks.Pre enq-looks.Post
+    (λ k a. looked (λ ret q c l. coding (enqLooks ret q c l) (enqCodes ret q c l)) a)
+unfolding tables-open
+enq-looks-none-without-a-look =
+    wrong-at tt (storedEntries ownerAndWaiter, (task 1, (None, (namesOf (exc x ∷ []), tt)))) refl
+    (omega arith, omega arith)
+    (λ k. eqb (code 0 (k .codes)) 0) refl refl
+
+-- whether all codes are 0 is told by others
+abbrev zeroBy : (List ℕ → Bool) → Looked → Looks
+zeroBy f a = looked (λ ret q c l. record {
+  has = enqLooks ret q c l .has;
+  codes = enqLooks ret q c l .codes;
+  zero = f (enqCodes (looksAs ret) q c l);
+}) a
+
+-- a code below 8 counts as 0: 3 tests x
+pub enq-looks-zero-with-a-4 : RuledOut (λ k. fits-Looked) enq-looks.Pre enq-looks.Post
+    (λ k a. zeroBy (every (λ b. ltb b 8)) a)
+unfolding tables-open
+enq-looks-zero-with-a-4 =
+    wrong-at tt (storedEntries ownerAndWaiter, (task 3, (Test, (namesOf (exc x ∷ []), tt)))) refl
+    (omega arith, omega arith)
+    (λ k. k .zero) refl refl
+
+-- the last code is not looked at: task 1 asks by HAVE for y and x, which it owns
+pub enq-looks-zero-but-the-last : RuledOut (λ k. fits-Looked) enq-looks.Pre enq-looks.Post
+    (λ k a. zeroBy (λ l. allZero (take (length l - 1) l)) a)
+unfolding tables-open
+enq-looks-zero-but-the-last =
+    wrong-at tt (storedEntries ownerAndWaiter, (task 1, (Have, (namesOf (exc y ∷ exc x ∷ []), tt)))) refl
+    (omega arith, omega arith)
+    (λ k. k .zero) refl refl
+
+-- DEQ: an entry counts as none, and none as one: task 1 gives x back
+pub deq-looks-exchanged : RuledOut (λ k. fits-Queue ⊗ fits-TaskNumber ⊗ fits-NameList ⊗ fits-end) deq-looks.Pre
+    deq-looks.Post (λ k a. coding (deqLooks (entriesIn (a .0)) (a .1 .0 .0) (namesIn (a .1 .1 .0)))
+    (map (λ (n : Resource). pick (hasEntry (entriesIn (a .0)) (a .1 .0 .0) n) 8 0) (resources (namesIn (a .1 .1 .0)))))
+unfolding tables-open
+deq-looks-exchanged =
+    wrong-at tt (storedEntries ownerAndWaiter, (task 1, (namesOf (exc x ∷ []), tt))) refl (omega arith, omega arith)
+    (λ k. eqb (code 0 (k .codes)) 8) refl refl
+
+-- an entry that lacks control is no entry: 2, who waits for x, gives it back
+pub deq-looks-of-owners-only : RuledOut (λ k. fits-Queue ⊗ fits-TaskNumber ⊗ fits-NameList ⊗ fits-end) deq-looks.Pre
+    deq-looks.Post (λ k a. deqLooks (holding [] (entriesIn (a .0))) (a .1 .0 .0) (namesIn (a .1 .1 .0)))
+unfolding tables-open
+deq-looks-of-owners-only =
+    wrong-at tt (storedEntries ownerAndWaiter, (task 2, (namesOf (exc x ∷ []), tt))) refl (omega arith, omega arith)
+    (λ k. eqb (code 0 (k .codes)) 8) refl refl
+
+-- VERDICTS
+
+-- what is asked, that it fits, by the RET kind's test, and what is said of the entries, the caller, the RET kind, the
+-- names and the area's length
+abbrev Asks : Type 0 → Type 0
+Asks K = Queue × (TaskNumber × (K × (NameList × (ℕ × Unit {0}))))
+
+abbrev fits-Asks : {K : Type 0} → (K → Bool) → Asks K → Bool
+fits-Asks ret = fits-Queue ⊗ fits-TaskNumber ⊗ ret ⊗ fits-NameList ⊗ fits-usize ⊗ fits-end
+
+abbrev verdictBy : {K : Type 0} → Judge K → Asks K → Verdict
+verdictBy f a = f (entriesIn (a .0)) (a .1 .0 .0) (a .1 .1 .0) (namesIn (a .1 .1 .1 .0)) (a .1 .1 .1 .1 .0)
+
+abbrev says : Found → ℕ
+says r = verdictNumber (r .verdict)
+
+-- with that verdict, and the looks that are promised
+abbrev enqJudged : Judge Ret → Asks Ret → Found
+enqJudged f a = record {
+  verdict = verdictBy f a;
+  looks = enqFound (entriesIn (a .0)) (a .1 .0) (a .1 .1 .0) (namesIn (a .1 .1 .1 .0)) (a .1 .1 .1 .1 .0) .looks;
+}
+
+abbrev deqJudged : Judge DeqRet → Asks DeqRet → Found
+deqJudged f a = record {
+  verdict = verdictBy f a;
+  looks = deqFound (entriesIn (a .0)) (a .1 .0) (a .1 .1 .0) (namesIn (a .1 .1 .1 .0)) (a .1 .1 .1 .1 .0) .looks;
+}
+
+-- n entries of task 1
+abbrev long : ℕ → List Entry
+long n = counted (λ i. entryFor 1 (exc (named 88 (i ∷ [])))) 1 n
+
+-- 104 goes before 101
+abbrev shortFirst : Judge Ret
+shortFirst q c ret l room =
+    firstOf
+    (short (enqCodesDue ret) room l
+    ∷ bad (enqGood ret l)
+    ∷ system (asksSystem l)
+    ∷ afterCodes q c ret l)
+
+-- CHNG asks for x shared, with no codes area
+pub enq-found-104-before-101 : RuledOut (λ k. fits-Asks fits-Ret) enq-found.Pre enq-found.Post
+    (λ k a. enqJudged shortFirst a)
+unfolding tables-open
+enq-found-104-before-101 =
+    wrong-at tt (storedEntries ownerAndWaiter, (task 1, (Chng, (namesOf (shr x ∷ []), (0, tt))))) refl (omega arith)
+    (λ r. eqb (says r) 104) refl refl
+
+-- a duplicate is an error under every RET kind
+abbrev everyDuplicate : Judge Ret
+everyDuplicate q c ret l room =
+    firstOf
+    (bad (enqGood ret l)
+    ∷ system (asksSystem l)
+    ∷ short (enqCodesDue ret) room l
+    ∷ fail DuplicateEnq (duplicated None q c l)
+    ∷ refuse NoEntryFree (tooFewFree ret q c l)
+    ∷ [])
+
+-- task 1 asks by USE for x, which it has
+pub enq-found-201-under-use : RuledOut (λ k. fits-Asks fits-Ret) enq-found.Pre enq-found.Post
+    (λ k a. enqJudged everyDuplicate a)
+unfolding tables-open
+enq-found-201-under-use =
+    wrong-at tt (storedEntries ownerAndWaiter, (task 1, (Use, (namesOf (exc x ∷ []), (1, tt))))) refl (omega arith)
+    (λ r. eqb (says r) 201) refl refl
+
+-- one free place is enough for any list
+abbrev oneFree : Judge Ret
+oneFree q c ret l room =
+    firstOf
+    (bad (enqGood ret l)
+    ∷ system (asksSystem l)
+    ∷ short (enqCodesDue ret) room l
+    ∷ fail DuplicateEnq (duplicated ret q c l)
+    ∷ refuse NoEntryFree (not (none (toQueue ret q c l)) && leb mostEntries (length q))
+    ∷ [])
+
+-- 127 entries, and 2 asks for two names
+pub enq-found-one-free-is-enough : RuledOut (λ k. fits-Asks fits-Ret) enq-found.Pre enq-found.Post
+    (λ k a. enqJudged oneFree a)
+unfolding tables-open
+enq-found-one-free-is-enough =
+    wrong-at tt (storedEntries (long 127), (task 2, (None, (namesOf (exc x ∷ exc y ∷ []), (0, tt))))) refl (omega arith)
+    (λ r. eqb (says r) 0) refl refl
+
+-- 105 goes before 201
+abbrev fullFirst : Judge Ret
+fullFirst q c ret l room =
+    firstOf
+    (bad (enqGood ret l)
+    ∷ system (asksSystem l)
+    ∷ short (enqCodesDue ret) room l
+    ∷ refuse NoEntryFree (tooFewFree ret q c l)
+    ∷ fail DuplicateEnq (duplicated ret q c l)
+    ∷ [])
+
+-- 128 entries, and task 1 asks for x, which it has
+pub enq-found-105-before-201 : RuledOut (λ k. fits-Asks fits-Ret) enq-found.Pre enq-found.Post
+    (λ k a. enqJudged fullFirst a)
+unfolding tables-open
+enq-found-105-before-201 =
+    wrong-at tt (storedEntries (long 128), (task 1, (None, (namesOf (exc x ∷ []), (0, tt))))) refl (omega arith)
+    (λ r. eqb (says r) 105) refl refl
+
+-- HAVE, document 02 §3: 127 entries, of task 1, which asks for one of them and for y
+pub enq-found-105-by-the-whole-list : RuledOut (λ k. fits-Asks fits-Ret) enq-found.Pre enq-found.Post
+    (λ k a. enqJudged (fullBy wholeList) a)
+unfolding tables-open
+enq-found-105-by-the-whole-list =
+    wrong-at tt (storedEntries (long 127), (task 1, (Have, (namesOf (exc x ∷ exc y ∷ []), (2, tt))))) refl (omega arith)
+    (λ r. eqb (says r) 105) refl refl
+
+-- 128 entries, and task 1 asks for one of them
+pub enq-found-105-with-nothing-to-queue : RuledOut (λ k. fits-Asks fits-Ret) enq-found.Pre enq-found.Post
+    (λ k a. enqJudged (fullBy noneFree) a)
+unfolding tables-open
+enq-found-105-with-nothing-to-queue =
+    wrong-at tt (storedEntries (long 128), (task 1, (Have, (namesOf (exc x ∷ []), (1, tt))))) refl (omega arith)
+    (λ r. eqb (says r) 105) refl refl
+
+-- 110, wrong in each of the ways of Verdicts: on an empty queue task 1 asks for these names, with so many bytes of area
+abbrev asking : Ret → List Ask → ℕ → Asks Ret
+asking ret l room = (storedEntries [], (task 1, (ret, (namesOf l, (room, tt)))))
+
+-- TEST for a system name, with no codes area
+pub enq-found-110-after-104 : RuledOut (λ k. fits-Asks fits-Ret) enq-found.Pre enq-found.Post
+    (λ k a. enqJudged after104 a)
+unfolding tables-open
+enq-found-110-after-104 =
+    wrong-at tt (asking Test (shr sysdsn ∷ []) 0) refl (omega arith) (λ r. eqb (says r) 104) refl refl
+
+-- NONE for a system name without a minor part
+pub enq-found-110-before-101 : RuledOut (λ k. fits-Asks fits-Ret) enq-found.Pre enq-found.Post
+    (λ k a. enqJudged before101 a)
+unfolding tables-open
+enq-found-110-before-101 =
+    wrong-at tt (asking None (exc (sysdsnWith []) ∷ []) 0) refl (omega arith) (λ r. eqb (says r) 110) refl refl
+
+-- x, and then a system name
+pub enq-found-first-name-only : RuledOut (λ k. fits-Asks fits-Ret) enq-found.Pre enq-found.Post
+    (λ k a. enqJudged (keepingOff firstOnly) a)
+unfolding tables-open
+enq-found-first-name-only =
+    wrong-at tt (asking None (exc x ∷ exc sysdsn ∷ []) 0) refl (omega arith) (λ r. eqb (says r) 0) refl refl
+
+-- E2 E8 E3
+pub enq-found-two-bytes-compared : RuledOut (λ k. fits-Asks fits-Ret) enq-found.Pre enq-found.Post
+    (λ k a. enqJudged (keepingOff (byName twoBytes)) a)
+unfolding tables-open
+enq-found-two-bytes-compared =
+    wrong-at tt (asking None (exc (beginning (0xE2 ∷ 0xE8 ∷ 0xE3 ∷ [])) ∷ []) 0) refl (omega arith)
+    (λ r. eqb (says r) 110) refl refl
+
+-- x's major part, and E2 E8 E2 as the minor part
+pub enq-found-in-the-minor-part : RuledOut (λ k. fits-Asks fits-Ret) enq-found.Pre enq-found.Post
+    (λ k a. enqJudged (keepingOff (byName inMinorToo)) a)
+unfolding tables-open
+enq-found-in-the-minor-part =
+    wrong-at tt (asking None (exc (named 88 (0xE2 ∷ 0xE8 ∷ 0xE2 ∷ [])) ∷ []) 0) refl (omega arith)
+    (λ r. eqb (says r) 110) refl refl
+
+-- TEST for a system name
+pub enq-found-test-passes : RuledOut (λ k. fits-Asks fits-Ret) enq-found.Pre enq-found.Post
+    (λ k a. enqJudged (keepingOff unlessTest) a)
+unfolding tables-open
+enq-found-test-passes =
+    wrong-at tt (asking Test (shr sysdsn ∷ []) 1) refl (omega arith) (λ r. eqb (says r) 0) refl refl
+
+-- the queue is looked at though the request alone is refused: task 1 tests x, which it owns, with no codes area
+pub enq-found-looks-though-refused : RuledOut (λ k. fits-Asks fits-Ret) enq-found.Pre enq-found.Post
+    (λ k a. record {
+      verdict = enqVerdict (entriesIn (a .0)) (a .1 .0) (a .1 .1 .0) (namesIn (a .1 .1 .1 .0)) (a .1 .1 .1 .1 .0);
+      looks = enqLooks (a .1 .1 .0) (entriesIn (a .0)) (a .1 .0 .0) (namesIn (a .1 .1 .1 .0));
+    })
+unfolding tables-open
+enq-found-looks-though-refused =
+    wrong-at tt (storedEntries ownerAndWaiter, (task 1, (Test, (namesOf (exc x ∷ []), (0, tt))))) refl (omega arith)
+    (λ r. getD (r .looks .has .of) 0 false) refl refl
+
+-- the codes area has to be longer than the list
+abbrev longer : Judge DeqRet
+longer q c ret l room =
+    firstOf
+    (bad (namesGood l)
+    ∷ refuse ShortArea (deqCodesDue ret && leb room (length (l .asks)))
+    ∷ fail DeqWithoutEntry (unentered ret q c l)
+    ∷ [])
+
+-- task 1 gives x back by HAVE, with an area of one byte
+pub deq-found-104-at-equal-length : RuledOut (λ k. fits-Asks fits-DeqRet) deq-found.Pre deq-found.Post
+    (λ k a. deqJudged longer a)
+unfolding tables-open
+deq-found-104-at-equal-length =
+    wrong-at tt (storedEntries ownerAndWaiter, (task 1, (DeqHave, (namesOf (exc x ∷ []), (1, tt))))) refl (omega arith)
+    (λ r. eqb (says r) 104) refl refl
+
+-- an entry for one of the names is enough
+abbrev oneEntered : Judge DeqRet
+oneEntered q c ret l room =
+    firstOf
+    (bad (namesGood l)
+    ∷ short (deqCodesDue ret) room l
+    ∷ fail DeqWithoutEntry (unentered ret q c l && not (some (hasEntry q c) (resources l)))
+    ∷ [])
+
+-- task 1 gives x and y back, and has x
+pub deq-found-one-entry-is-enough : RuledOut (λ k. fits-Asks fits-DeqRet) deq-found.Pre deq-found.Post
+    (λ k a. deqJudged oneEntered a)
+unfolding tables-open
+deq-found-one-entry-is-enough =
+    wrong-at tt (storedEntries ownerAndWaiter, (task 1, (DeqNone, (namesOf (exc x ∷ exc y ∷ []), (0, tt))))) refl
+    (omega arith)
+    (λ r. eqb (says r) 0) refl refl
+
+-- a name without entry is an error under HAVE too
+abbrev everyMissing : Judge DeqRet
+everyMissing q c ret l room =
+    firstOf
+    (bad (namesGood l)
+    ∷ short (deqCodesDue ret) room l
+    ∷ fail DeqWithoutEntry (unentered DeqNone q c l)
+    ∷ [])
+
+-- task 1 gives y back by HAVE, and has no entry for it
+pub deq-found-202-under-have : RuledOut (λ k. fits-Asks fits-DeqRet) deq-found.Pre deq-found.Post
+    (λ k a. deqJudged everyMissing a)
+unfolding tables-open
+deq-found-202-under-have =
+    wrong-at tt (storedEntries ownerAndWaiter, (task 1, (DeqHave, (namesOf (exc y ∷ []), (1, tt))))) refl (omega arith)
+    (λ r. eqb (says r) 202) refl refl
+
+-- a system name is refused: task 1 gives one back by HAVE
+pub deq-found-110 : RuledOut (λ k. fits-Asks fits-DeqRet) deq-found.Pre deq-found.Post
+    (λ k a. deqJudged deqKeepingOff a)
+unfolding tables-open
+deq-found-110 =
+    wrong-at tt (storedEntries ownerAndWaiter, (task 1, (DeqHave, (namesOf (exc sysdsn ∷ []), (1, tt))))) refl
+    (omega arith)
+    (λ r. eqb (says r) 110) refl refl
+
+-- BODIES
+
+-- the parameters of ENQ and of DEQ
+abbrev Given : Type 0 → Type 0
+Given R = Queue × (TaskTable × (TaskNumber × (R × (NameList × (RefT (List ℕ) × Unit {0})))))
+
+-- that they fit, by the RET kind's test
+abbrev fits-Given : {R : Type 0} → (R → Bool) → Given R → Bool
+fits-Given ret = fits-Queue ⊗ fits-TaskTable ⊗ fits-TaskNumber ⊗ ret ⊗ fits-NameList ⊗ fits-lent ⊗ fits-end
+
+-- on the tables of a step task c asks, with these bytes as codes area
+abbrev on : {R : Type 0} → Step → ℕ → R → NameList → List ℕ → Given R
+on s c ret l area = (storedEntries (s .queue), (taskTableOf (s .tasks), (task c, (ret, (l, (lent area, tt))))))
+
+-- the queue, the caller, the RET kind, the names and the codes area
+module _ {R : Type 0} where
+  abbrev queue : Given R → List Entry
+  queue a = entriesIn (a .0)
+
+  abbrev caller : Given R → TaskNumber
+  caller a = a .1 .1 .0
+
+  abbrev ret : Given R → R
+  ret a = a .1 .1 .1 .0
+
+  abbrev names : Given R → Names
+  names a = namesIn (a .1 .1 .1 .1 .0)
+
+  abbrev area : Given R → List ℕ
+  area a = now (a .1 .1 .1 .1 .1 .0)
+
+-- the parameters at the end: other bytes in the codes area
+abbrev ends : {R : Type 0} → Given R → List ℕ → Given R
+ends a area =
+    (a .0, (a .1 .0, (a .1 .1 .0, (a .1 .1 .1 .0, (a .1 .1 .1 .1 .0, (at-last (a .1 .1 .1 .1 .1 .0) area, tt))))))
+
+-- a sound step admits a caller
+admits : (s : Step) (c : TaskNumber) → soundStep s ≡ true → s .over ≡ false → gateOf s c ≡ Open
+    → Admits (s .queue) (s .tasks) c
+admits s c h o g = record {
+  rest = s;
+  running = running-parts s h o;
+  gate = g;
+}
+
+-- task 1 owns x, and 2 is ready; then 2 waits for x
+abbrev owned : Step
+owned = after start ownedRun
+
+abbrev awaited : Step
+awaited = after start awaitedRun
+
+-- task 1 shares x
+abbrev shared : Step
+shared = after start sharedByOne
+
+owned-packed : PackedEntries (storedEntries (owned .queue))
+unfolding tables-open
+owned-packed = record { form = refl; room = omega arith }
+
+awaited-packed : PackedEntries (storedEntries (awaited .queue))
+unfolding tables-open
+awaited-packed = record { form = refl; room = omega arith }
+
+shared-packed : PackedEntries (storedEntries (shared .queue))
+unfolding tables-open
+shared-packed = record { form = refl; room = omega arith }
+
+-- the tables as they were, those of an answer, and these but for the family; the answer with other tables
+abbrev before : {R : Type 0} → Given R → Both
+before a = record { queue = a .0; tasks = a .1 .0 }
+
+abbrev tablesOf : Served → Both
+tablesOf r = record { queue = r .queue; tasks = r .tasks }
+
+abbrev familyAsBefore : {R : Type 0} → Given R → Served → Both
+familyAsBefore a r = record { queue = r .queue; tasks = a .1 .0 }
+
+abbrev withTables : Served → Both → Served
+withTables r t = record { verdict = r .verdict; reply = r .reply; queue = t .queue; tasks = t .tasks }
+
+-- WHAT IS PROMISED OF ENQ
+abbrev enqSays : Given Ret → Verdict
+enqSays a = enqVerdict (queue a) (caller a) (ret a) (names a) (length (area a))
+
+abbrev enqAnswer : Given Ret → Served
+enqAnswer a = enqBy (enqSays a) (ret a) (a .0) (a .1 .0) (caller a .0) (names a)
+
+abbrev enqCodesOf : Given Ret → List ℕ
+enqCodesOf a = enqCodes (ret a) (queue a) (caller a .0) (names a)
+
+abbrev enqArea : Given Ret → List ℕ
+enqArea a =
+    codesThrough Open (enqSays a) (area a) (enqWritten (queue a) (caller a) (ret a) (names a) (area a))
+
+-- the caller goes on without control: 2 asks for x
+pub enq-on-queue-goes-on-without-control : RuledOutWith (λ k. fits-Given fits-Ret) enq-on-queue.Pre enq-on-queue.Post
+    (λ k a. (withTables (enqAnswer a) (familyAsBefore a (enqAnswer a)), ends a (enqArea a)))
+unfolding tables-open
+enq-on-queue-goes-on-without-control =
+    wrong-result ([], tt) (on owned 2 None (namesOf (exc x ∷ [])) []) refl
+    (owned-packed, admits owned (task 2) refl refl refl)
+    (λ r. isReady (conditionOf (r .tasks .places) 2)) refl refl
+
+-- the RET kind is USE
+abbrev isUse : Ret → Bool
+isUse None = false
+isUse Test = false
+isUse Use = true
+isUse Have = false
+isUse Chng = false
+
+-- under USE only the first code has to be 0
+abbrev byFirstCode : Given Ret → Both
+byFirstCode a =
+    onGo (enqSays a)
+    (pick (isUse (ret a))
+    (pick (allZero (take 1 (enqCodesOf a)))
+    (requeuedTo (withTail (queue a) (caller a .0) (names a .asks)) (a .1 .0 .places))
+    (before a))
+    (tablesOf (enqAnswer a)))
+    (before a)
+
+-- 2 asks by USE for y and x, with the codes 0 and 4, and is queued for y
+pub enq-on-queue-by-the-first-code : RuledOutWith (λ k. fits-Given fits-Ret) enq-on-queue.Pre enq-on-queue.Post
+    (λ k a. (withTables (enqAnswer a) (byFirstCode a), ends a (enqArea a)))
+unfolding tables-open
+enq-on-queue-by-the-first-code =
+    wrong-result ([], tt) (on owned 2 Use (namesOf (exc y ∷ exc x ∷ [])) (238 ∷ 238 ∷ [])) refl
+    (owned-packed, admits owned (task 2) refl refl refl) (λ r. hasEntry (entriesIn (r .queue)) 2 y) refl refl
+
+-- the RET kind is CHNG
+abbrev isChng : Ret → Bool
+isChng None = false
+isChng Test = false
+isChng Use = false
+isChng Have = false
+isChng Chng = true
+
+-- CHNG changes nothing: task 1 shares x and asks for it exclusive
+pub enq-on-queue-chng-leaves-it-shared : RuledOutWith (λ k. fits-Given fits-Ret) enq-on-queue.Pre enq-on-queue.Post
+    (λ k a. (withTables (enqAnswer a) (pick (isChng (ret a)) (before a) (tablesOf (enqAnswer a))), ends a (enqArea a)))
+unfolding tables-open
+enq-on-queue-chng-leaves-it-shared =
+    wrong-result ([], tt) (on shared 1 Chng (namesOf (exc x ∷ [])) (238 ∷ [])) refl
+    (shared-packed, admits shared (task 1) refl refl refl)
+    (λ r. every (λ (e : Entry). not (e .exclusive)) (entriesIn (r .queue))) refl refl
+
+-- HAVE, wrong in each of the ways of Haves: on a step that has these entries and tasks
+abbrev stepIn : Given Ret → Step
+stepIn a = withQueue (withTasks start (a .1 .0 .places)) (queue a)
+
+abbrev havingBy : Outcome Step → Given Ret → Served
+havingBy o a = record {
+  verdict = enqSays a;
+  reply = onGo (enqSays a) (replyTo (eqb (o .number) 0)) Done;
+  queue = onGo (enqSays a) (storedEntries (o .tables .queue)) (a .0);
+  tasks = onGo (enqSays a) (taskTableOf (o .tables .tasks)) (a .1 .0);
+}
+
+abbrev having : Doing → Given Ret → Served × Given Ret
+having f a =
+    (ifHave (ret a) (havingBy (f (stepIn a) (caller a .0) (names a)) a) (enqAnswer a), ends a (enqArea a))
+
+-- 1 shares x, and 2 owns y
+abbrev mixed : Step
+mixed = after start sharesAndOwns
+
+mixed-packed : PackedEntries (storedEntries (mixed .queue))
+unfolding tables-open
+mixed-packed = record { form = refl; room = omega arith }
+
+-- 1 asks for x exclusive, for y, and for z: the codes are 8, 0 and 0, and it waits for y
+abbrev asksMixed : Given Ret
+asksMixed = on mixed 1 Have (namesOf (exc x ∷ exc y ∷ shr z ∷ [])) (238 ∷ 238 ∷ 238 ∷ [])
+
+mixed-asked : enq-on-queue.Pre ([], tt) asksMixed
+unfolding tables-open
+mixed-asked = (mixed-packed, admits mixed (task 1) refl refl refl)
+
+-- its entry for z is there
+abbrev hasZ : Served → Bool
+hasZ r = hasEntry (entriesIn (r .queue)) 1 z
+
+-- the entry behind n others
+abbrev entryAt : ℕ → Served → Entry
+entryAt n r = getD (entriesIn (r .queue)) n (entryFor 0 (exc x))
+
+pub enq-on-queue-have-all-or-nothing : RuledOutWith (λ k. fits-Given fits-Ret) enq-on-queue.Pre enq-on-queue.Post
+    (λ k a. having allOrNothing a)
+unfolding tables-open
+enq-on-queue-have-all-or-nothing =
+    wrong-result ([], tt) asksMixed refl mixed-asked (λ r. not (hasZ r)) refl refl
+
+pub enq-on-queue-have-queues-the-skipped : RuledOutWith (λ k. fits-Given fits-Ret) enq-on-queue.Pre enq-on-queue.Post
+    (λ k a. having skippedQueued a)
+unfolding tables-open
+enq-on-queue-have-queues-the-skipped =
+    wrong-result ([], tt) asksMixed refl mixed-asked (λ r. not (hasZ r)) refl refl
+
+pub enq-on-queue-have-skips-nothing : RuledOutWith (λ k. fits-Given fits-Ret) enq-on-queue.Pre enq-on-queue.Post
+    (λ k a. having skipsNothing a)
+unfolding tables-open
+enq-on-queue-have-skips-nothing =
+    wrong-result ([], tt) asksMixed refl mixed-asked (λ r. eqb (r .queue .count) 5) refl refl
+
+pub enq-on-queue-have-last-first : RuledOutWith (λ k. fits-Given fits-Ret) enq-on-queue.Pre enq-on-queue.Post
+    (λ k a. having lastFirst a)
+unfolding tables-open
+enq-on-queue-have-last-first =
+    wrong-result ([], tt) asksMixed refl mixed-asked (λ r. sameName (entryAt 2 r .name) z) refl refl
+
+pub enq-on-queue-have-makes-exclusive : RuledOutWith (λ k. fits-Given fits-Ret) enq-on-queue.Pre enq-on-queue.Post
+    (λ k a. having skippedMadeExclusive a)
+unfolding tables-open
+enq-on-queue-have-makes-exclusive =
+    wrong-result ([], tt) asksMixed refl mixed-asked (λ r. entryAt 0 r .exclusive) refl refl
+
+pub enq-on-queue-have-never-waits : RuledOutWith (λ k. fits-Given fits-Ret) enq-on-queue.Pre enq-on-queue.Post
+    (λ k a. having neverWaits a)
+unfolding tables-open
+enq-on-queue-have-never-waits =
+    wrong-result ([], tt) asksMixed refl mixed-asked
+    (λ r. isReady (conditionOf (r .tasks .places) 1)) refl refl
+
+pub enq-on-queue-have-answers-0 : RuledOutWith (λ k. fits-Given fits-Ret) enq-on-queue.Pre enq-on-queue.Post
+    (λ k a. having answersZero a)
+unfolding tables-open
+enq-on-queue-have-answers-0 =
+    wrong-result ([], tt) asksMixed refl mixed-asked (λ r. eqb (numberOf (r .reply)) 0) refl refl
+
+-- NONE writes codes: 2 asks for y, with an area of one byte
+pub enq-on-queue-codes-under-none : RuledOutWith (λ k. fits-Given fits-Ret) enq-on-queue.Pre enq-on-queue.Post
+    (λ k a. (enqAnswer a, ends a (codesThrough Open (enqSays a) (area a) (writtenOn (enqCodesOf a) (area a)))))
+unfolding tables-open
+enq-on-queue-codes-under-none =
+    wrong-area ([], tt) (on owned 2 None (namesOf (exc y ∷ [])) (238 ∷ [])) refl
+    (owned-packed, admits owned (task 2) refl refl refl) (λ l. eqb (getD l 0 0) 0) refl refl
+
+-- WHAT IS PROMISED OF DEQ
+abbrev deqSays : Given DeqRet → Verdict
+deqSays a = deqVerdict (queue a) (caller a) (ret a) (names a) (length (area a))
+
+abbrev deqAnswer : Given DeqRet → Served
+deqAnswer a = deqBy (deqSays a) (ret a) (a .0) (a .1 .0) (caller a .0) (names a)
+
+abbrev deqCodesOf : Given DeqRet → List ℕ
+deqCodesOf a = deqCodes (ret a) (queue a) (caller a .0) (names a)
+
+abbrev deqArea : Given DeqRet → List ℕ
+deqArea a =
+    codesThrough Open (deqSays a) (area a) (deqWritten (queue a) (caller a) (ret a) (names a) (area a))
+
+-- nobody is granted what was released: task 1 gives x back, for which 2 waits
+pub deq-on-queue-grants-nothing : RuledOutWith (λ k. fits-Given fits-DeqRet) deq-on-queue.Pre deq-on-queue.Post
+    (λ k a. (withTables (deqAnswer a) (familyAsBefore a (deqAnswer a)), ends a (deqArea a)))
+unfolding tables-open
+deq-on-queue-grants-nothing =
+    wrong-result ([], tt) (on awaited 1 DeqNone (namesOf (exc x ∷ [])) []) refl
+    (awaited-packed, admits awaited (task 1) refl refl refl)
+    (λ r. inResourceWait (conditionOf (r .tasks .places) 2)) refl refl
+
+-- the answer is 0 although a code is 8: task 1 gives y back, and has no entry for it
+pub deq-on-queue-says-0-with-a-code-8 : RuledOutWith (λ k. fits-Given fits-DeqRet) deq-on-queue.Pre deq-on-queue.Post
+    (λ k a. (
+      record {
+        verdict = deqSays a;
+        reply = Done;
+        queue = deqAnswer a .queue;
+        tasks = deqAnswer a .tasks;
+      },
+      ends a (deqArea a),
+    ))
+unfolding tables-open
+deq-on-queue-says-0-with-a-code-8 =
+    wrong-result ([], tt) (on owned 1 DeqHave (namesOf (exc y ∷ [])) (238 ∷ [])) refl
+    (owned-packed, admits owned (task 1) refl refl refl) (λ r. eqb (numberOf (r .reply)) 0) refl refl
+
+-- nothing is released unless every code is 0: task 1 gives x and y back by HAVE, and has x only
+pub deq-on-queue-all-or-nothing : RuledOutWith (λ k. fits-Given fits-DeqRet) deq-on-queue.Pre deq-on-queue.Post
+    (λ k a. (
+      withTables (deqAnswer a) (pick (allZero (deqCodesOf a)) (tablesOf (deqAnswer a)) (before a)),
+      ends a (deqArea a),
+    ))
+unfolding tables-open
+deq-on-queue-all-or-nothing =
+    wrong-result ([], tt) (on owned 1 DeqHave (namesOf (exc x ∷ exc y ∷ [])) (238 ∷ 238 ∷ [])) refl
+    (owned-packed, admits owned (task 1) refl refl refl) (λ r. hasEntry (entriesIn (r .queue)) 1 x) refl refl
+
+-- the codes are found after the entries have gone: task 1 gives x back by HAVE, and the code is 8
+pub deq-on-queue-codes-after-the-release : RuledOutWith (λ k. fits-Given fits-DeqRet) deq-on-queue.Pre deq-on-queue.Post
+    (λ k a. (
+      deqAnswer a,
+      ends a (codesThrough Open (deqSays a) (area a)
+          (deqWritten (entriesIn (deqAnswer a .queue)) (caller a) (ret a) (names a) (area a))),
+    ))
+unfolding tables-open
+deq-on-queue-codes-after-the-release =
+    wrong-area ([], tt) (on owned 1 DeqHave (namesOf (exc x ∷ [])) (238 ∷ [])) refl
+    (owned-packed, admits owned (task 1) refl refl refl) (λ l. eqb (getD l 0 0) 8) refl refl

@@ -1,2 +1,0 @@
-pub mod Mothers
-pub mod Promises

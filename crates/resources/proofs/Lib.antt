@@ -1,0 +1,5 @@
+pub mod Changes
+pub mod Judged
+pub mod Looked
+pub mod Bodies
+pub mod Promises

@@ -1,0 +1,3 @@
+pub mod Coding
+pub mod Looking
+pub mod Serving

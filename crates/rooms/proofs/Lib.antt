@@ -1,7 +1,0 @@
-pub mod Passed
-pub mod Landing
-pub mod Jumps
-pub mod Jumping
-pub mod Searching
-pub mod Trials
-pub mod Promises

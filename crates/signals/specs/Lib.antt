@@ -1,4 +1,0 @@
-pub mod Posts
-pub mod Served
-pub mod Sound
-pub mod Steps

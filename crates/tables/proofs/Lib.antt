@@ -1,0 +1,4 @@
+pub mod Admits
+pub mod Bodies
+pub mod Leaving
+pub mod Promises

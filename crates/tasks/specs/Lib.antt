@@ -1,0 +1,4 @@
+pub mod TaskTables
+pub mod Highest
+pub mod Rows
+pub mod Under

@@ -1,4 +1,4 @@
--- Wrong answers that the contracts of `flags` rule out.
+-- Wrong answers that the contracts of the looks of `queue` rule out.
 use mathlib.Core.Path.{refl}
 use mathlib.Core.Bool.{Bool, true, false, not, _&&_}
 use mathlib.Core.List.{List, [], _∷_, map}

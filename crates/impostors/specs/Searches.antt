@@ -1,5 +1,5 @@
 -- WRONG JUMPS: where a search goes on past the area x in the way of w, wrong in one thing. (By the right rule and with
--- tries enough such a search is the rules': `rooms`, proofs/Jumping.)
+-- tries enough such a search is the rules': `mainstorage`, proofs/Jumping.)
 use Prim.Native.Nat.{_+_, _*_}
 use Rattle.lists.specs.Pick.{pick}
 use Rattle.kinds.specs.Limits.{region, page}

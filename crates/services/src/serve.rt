@@ -5,11 +5,22 @@ use crate::Tables;
 use crate::answering;
 use crate::gate;
 use crate::settled;
+use events::clear;
+use events::post;
+use events::wait;
 use kinds::EcbList;
 use kinds::Gate;
 use kinds::NameList;
 use kinds::Reply;
 use kinds::Request;
+use mainstorage::freemain;
+use mainstorage::getmain;
+use resources::deq;
+use resources::enq;
+use subtasks::abend;
+use subtasks::attach;
+use subtasks::detach;
+use subtasks::end;
 use tables::AllTables;
 ghost use mathlib.Core.Path.{_≡_};
 ghost use mathlib.Core.List.{[]};
@@ -83,33 +94,18 @@ fn served(
             lpmod,
             dpmod,
             ecb,
-        } => settled(
-            caller,
-            subtasks::attach::served(t, caller, lpmod, dpmod, ecb),
-        ),
-        Request::Detach { caller, task } => settled(
-            caller,
-            subtasks::detach::served(t, caller, task),
-        ),
-        Request::End { caller, code } => settled(caller, subtasks::end::served(t, caller, code)),
+        } => settled(caller, attach::served(t, caller, lpmod, dpmod, ecb)),
+        Request::Detach { caller, task } => settled(caller, detach::served(t, caller, task)),
+        Request::End { caller, code } => settled(caller, end::served(t, caller, code)),
         Request::Abend { caller, code, step } => settled(
             caller,
-            subtasks::abend::served(t, caller, code, step),
+            abend::served(t, caller, code, step),
         ),
-        Request::Enq { caller, ret } => settled(
-            caller,
-            resources::enq::served(t, caller, ret, names, codes),
-        ),
-        Request::Deq { caller, ret } => settled(
-            caller,
-            resources::deq::served(t, caller, ret, names, codes),
-        ),
-        Request::Wait { caller, count } => settled(
-            caller,
-            events::wait::served(t, caller, ecbs, count),
-        ),
-        Request::Post { caller, ecb, code } => settled(caller, events::post::served(t, ecb, code)),
-        Request::Clear { caller, ecb } => settled(caller, events::clear::served(t, ecb)),
+        Request::Enq { caller, ret } => settled(caller, enq::served(t, caller, ret, names, codes)),
+        Request::Deq { caller, ret } => settled(caller, deq::served(t, caller, ret, names, codes)),
+        Request::Wait { caller, count } => settled(caller, wait::served(t, caller, ecbs, count)),
+        Request::Post { caller, ecb, code } => settled(caller, post::served(t, ecb, code)),
+        Request::Clear { caller, ecb } => settled(caller, clear::served(t, ecb)),
         Request::Getmain {
             caller,
             length,
@@ -117,7 +113,7 @@ fn served(
             conditional,
         } => settled(
             caller,
-            mainstorage::getmain::served(t, caller, length, subpool, conditional),
+            getmain::served(t, caller, length, subpool, conditional),
         ),
         Request::Freemain {
             caller,
@@ -126,7 +122,7 @@ fn served(
             subpool,
         } => settled(
             caller,
-            mainstorage::freemain::served(t, caller, address, length, subpool),
+            freemain::served(t, caller, address, length, subpool),
         ),
         Request::Dispatch => {
             let f = t.tasks;

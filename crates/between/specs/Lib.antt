@@ -2,4 +2,4 @@ pub mod Waiting
 pub mod Posts
 pub mod Sound
 pub mod Steps
-pub mod Owners
+pub mod Places

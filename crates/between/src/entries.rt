@@ -1,5 +1,7 @@
 // What the queue and the task table have to say of each other.
 
+use crate::live_by;
+use crate::place_index;
 use kinds::Task;
 use kinds::TaskNumber;
 use queue::Queue;
@@ -22,7 +24,9 @@ pub fn entries_live(q: Queue, f: TaskTable) -> bool
     while i < n {
         let x = q.slots[i];
         let t = x.task;
-        if !tasks::is_live(f, t) {
+        let j = place_index(t);
+        let y = f.places[j];
+        if !live_by(t, y) {
             return false;
         }
         i += 1;

@@ -1,30 +1,18 @@
 // Areas and their owners: the storage beside the task table.
+use crate::live_by;
+use crate::place_index;
 use kinds::Area;
 use kinds::Task;
-use kinds::TaskNumber;
 use storage::Storage;
 use tasks::TaskTable;
 ghost use mathlib.Core.Path.{_≡_};
-ghost use Prim.Native.Nat.{_-_, _≤_, _<_};
+ghost use Prim.Native.Nat.{_≤_};
 ghost use Rattle.lists.specs.Lists.{keep};
-ghost use Rattle.kinds.specs.Limits.{lowestTask, highestTask, mostAreas};
+ghost use Rattle.kinds.specs.Limits.{mostAreas};
 ghost use Rattle.rules.specs.SoundAreas.{areaOwnersGood};
 ghost use Rattle.rules.specs.Ending.{areaStays};
 ghost use Rattle.storage.specs.Stored.{areasIn, storedAreas, PackedAreas};
-ghost use Rattle.between.specs.Owners.{goodBy};
-
-// Where task n's place stands in the task table; a number that has none gets the first.
-fn slot(n: TaskNumber) -> usize
-    ensures { λ r. ⌜ (r < highestTask) × (n .0 ≤ highestTask → r ≡ n .0 - lowestTask) ⌝ }
-{
-    if n.0 == 0 {
-        return 0;
-    }
-    if TaskNumber::HIGHEST < n.0 {
-        return 0;
-    }
-    (n.0 - TaskNumber::LOWEST) as usize
-}
+ghost use Rattle.between.specs.Places.{goodBy};
 
 // Of the step, in subpool 0, or else of a live task. x is the owner's place, if it has one.
 fn owner_good(a: Area, x: Task) -> bool
@@ -34,11 +22,10 @@ fn owner_good(a: Area, x: Task) -> bool
     if a.subpool == 0 {
         return owner.0 == 0;
     }
-    let k = x.condition;
-    owner.is_good() & k.is_live()
+    live_by(owner, x)
 }
 
-// The places are read here, so that the task table is not copied for each area.
+// Each area is the step's, or of a live task.
 pub fn owners_good(s: Storage, f: TaskTable) -> bool
     requires { ⌜ s .count ≤ mostAreas ⌝ }
     ensures { λ r. ⌜ r ≡ areaOwnersGood (f .places) (areasIn s) ⌝ }
@@ -48,7 +35,7 @@ pub fn owners_good(s: Storage, f: TaskTable) -> bool
     while i < n {
         let a = s.areas[i];
         let t = a.owner;
-        let j = slot(t);
+        let j = place_index(t);
         let x = f.places[j];
         if !owner_good(a, x) {
             return false;

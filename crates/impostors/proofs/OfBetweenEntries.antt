@@ -32,8 +32,8 @@ use Rattle.impostors.specs.Wrong.{RuledOut, wrong-at}
 use Rattle.impostors.specs.Parts.{ownerAndWaiter}
 
 -- task 1 is ready, and its subtask 2, attached with ECB 3, in this condition
-abbrev family : Condition → TaskTable
-family k =
+abbrev tasks : Condition → TaskTable
+tasks k =
     taskTableOf (padded highestTask noTask (rowOf Ready 0 200 150 NoEcb ∷ rowOf k 1 200 150 (Named (ecb 3)) ∷ []))
 
 -- the condition of 2
@@ -49,14 +49,14 @@ pub entries-live-ended-too : RuledOut (λ k. fits-Queue ⊗ fits-TaskTable ⊗ f
     (λ k a. every (λ (e : Entry). used (a .1 .0 .places) (e .task)) (entriesIn (a .0)))
 unfolding tables-open
 entries-live-ended-too =
-    wrong-at tt (storedEntries ownerAndWaiter, (family Ended, tt)) refl (omega arith) (λ b. b) refl refl
+    wrong-at tt (storedEntries ownerAndWaiter, (tasks Ended, tt)) refl (omega arith) (λ b. b) refl refl
 
 -- a task that waits is not live
 pub entries-live-ready-only : RuledOut (λ k. fits-Queue ⊗ fits-TaskTable ⊗ fits-end) entries-live.Pre entries-live.Post
     (λ k a. every (λ (e : Entry). isReady (conditionOf (a .1 .0 .places) (e .task))) (entriesIn (a .0)))
 unfolding tables-open
 entries-live-ready-only =
-    wrong-at tt (storedEntries ownerAndWaiter, (family ResourceWait, tt)) refl (omega arith) not refl refl
+    wrong-at tt (storedEntries ownerAndWaiter, (tasks ResourceWait, tt)) refl (omega arith) not refl refl
 
 -- a task may wait that lacks nothing: 2 waits, and there is no entry
 pub waits-good-waiting-for-nothing :
@@ -65,7 +65,7 @@ pub waits-good-waiting-for-nothing :
     (a .1 .0 .places))
 unfolding tables-open
 waits-good-waiting-for-nothing =
-    wrong-at tt (storedEntries [], (family ResourceWait, tt)) refl (omega arith) (λ b. b) refl refl
+    wrong-at tt (storedEntries [], (tasks ResourceWait, tt)) refl (omega arith) (λ b. b) refl refl
 
 -- a task may go on that lacks control: 2 is ready
 pub waits-good-ready-without-control :
@@ -74,20 +74,20 @@ pub waits-good-ready-without-control :
     (a .1 .0 .places))
 unfolding tables-open
 waits-good-ready-without-control =
-    wrong-at tt (storedEntries ownerAndWaiter, (family Ready, tt)) refl (omega arith) (λ b. b) refl refl
+    wrong-at tt (storedEntries ownerAndWaiter, (tasks Ready, tt)) refl (omega arith) (λ b. b) refl refl
 
 -- an ECB wait is taken for a resource wait: 2 is in one, and lacks nothing
 pub waits-good-of-either-kind : RuledOut (λ k. fits-Queue ⊗ fits-TaskTable ⊗ fits-end) waits-good.Pre waits-good.Post
     (λ k a. everyAt (λ n (t : Task). alike (waits (t .condition)) (lacks n (entriesIn (a .0)))) 1 (a .1 .0 .places))
 unfolding tables-open
-waits-good-of-either-kind = wrong-at tt (storedEntries [], (family (EcbWait 1), tt)) refl (omega arith) not refl refl
+waits-good-of-either-kind = wrong-at tt (storedEntries [], (tasks (EcbWait 1), tt)) refl (omega arith) not refl refl
 
 -- an entry of a task that has ended stays
 pub entries-left-ended-stay : RuledOut (λ k. fits-Queue ⊗ fits-TaskTable ⊗ fits-end) entries-left.Pre entries-left.Post
     (λ k a. storedEntries (keep (λ (e : Entry). used (a .1 .0 .places) (e .task)) (entriesIn (a .0))))
 unfolding tables-open
 entries-left-ended-stay =
-    wrong-at tt (storedEntries ownerAndWaiter, (family Ended, tt)) refl two-packed
+    wrong-at tt (storedEntries ownerAndWaiter, (tasks Ended, tt)) refl two-packed
     (λ q. hasEntry (entriesIn q) 2 x) refl refl
 
 -- an entry of a task that waits goes
@@ -95,7 +95,7 @@ pub entries-left-waiting-go : RuledOut (λ k. fits-Queue ⊗ fits-TaskTable ⊗ 
     (λ k a. storedEntries (keep (λ (e : Entry). isReady (conditionOf (a .1 .0 .places) (e .task))) (entriesIn (a .0))))
 unfolding tables-open
 entries-left-waiting-go =
-    wrong-at tt (storedEntries ownerAndWaiter, (family ResourceWait, tt)) refl two-packed
+    wrong-at tt (storedEntries ownerAndWaiter, (tasks ResourceWait, tt)) refl two-packed
     (λ q. not (hasEntry (entriesIn q) 2 x))
     refl refl
 
@@ -103,7 +103,7 @@ entries-left-waiting-go =
 pub wake-nobody : RuledOut (λ k. fits-Queue ⊗ fits-TaskTable ⊗ fits-end) wake.Pre wake.Post (λ k a. a .1 .0)
 unfolding tables-open
 wake-nobody =
-    wrong-at tt (storedEntries [], (family ResourceWait, tt)) refl (omega arith)
+    wrong-at tt (storedEntries [], (tasks ResourceWait, tt)) refl (omega arith)
     (λ f. inResourceWait (second f)) refl refl
 
 -- whoever has control of something wakes: 2 owns y, and waits for x
@@ -114,7 +114,7 @@ pub wake-at-the-first-grant : RuledOut (λ k. fits-Queue ⊗ fits-TaskTable ⊗ 
     (withCondition t Ready) t) 1 (a .1 .0 .places)))
 unfolding tables-open
 wake-at-the-first-grant =
-    wrong-at tt (storedEntries (entryFor 2 (exc y) ∷ ownerAndWaiter), (family ResourceWait, tt)) refl (omega arith)
+    wrong-at tt (storedEntries (entryFor 2 (exc y) ∷ ownerAndWaiter), (tasks ResourceWait, tt)) refl (omega arith)
     (λ f. isReady (second f)) refl refl
 
 -- whoever lacks control begins to wait: 2 is ready
@@ -122,6 +122,6 @@ pub wake-also-holds-up : RuledOut (λ k. fits-Queue ⊗ fits-TaskTable ⊗ fits-
     (λ k a. taskTableOf (waitsBy (entriesIn (a .0)) (a .1 .0 .places)))
 unfolding tables-open
 wake-also-holds-up =
-    wrong-at tt (storedEntries ownerAndWaiter, (family Ready, tt)) refl (omega arith)
+    wrong-at tt (storedEntries ownerAndWaiter, (tasks Ready, tt)) refl (omega arith)
     (λ f. inResourceWait (second f)) refl
     refl

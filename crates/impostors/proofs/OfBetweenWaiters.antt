@@ -31,14 +31,14 @@ use Rattle.impostors.specs.Fitting.{fits-end, fits-u32}
 use Rattle.impostors.specs.Opened.{tables-open}
 use Rattle.impostors.specs.Wrong.{RuledOut, wrong-at, told-apart}
 use Rattle.impostors.specs.Samples.{ecb}
-use Rattle.impostors.specs.Parts.{family, first, ready, held, waiting, ended, events, awaited}
+use Rattle.impostors.specs.Parts.{tasks, first, ready, held, waiting, ended, events, awaited}
 
 -- task 1 and its daughter 2, which is ready; which waits for so many posts
 abbrev two : TaskTable
-two = family (first ∷ ready 1 ∷ [])
+two = tasks (first ∷ ready 1 ∷ [])
 
 abbrev twoWaits : ℕ → TaskTable
-twoWaits n = family (first ∷ waiting 1 n ∷ [])
+twoWaits n = tasks (first ∷ waiting 1 n ∷ [])
 
 -- 2 waits on ECB 0; on ECBs 0 and 1
 abbrev oneAwaited : EcbTable
@@ -56,7 +56,7 @@ pub waiters-good-in-any-wait :
     RuledOut (λ k. fits-EcbTable ⊗ fits-TaskTable ⊗ fits-end) waiters-good.Pre waiters-good.Post
     (λ k a. every (λ (x : Ecb). not (waitBit x) || waits (conditionOf (a .1 .0 .places) (x .waiter .0))) (a .0 .ecbs))
 unfolding tables-open
-waiters-good-in-any-wait = wrong-at tt (oneAwaited, (family (first ∷ held 1 ∷ []), tt)) refl tt (λ b. b) refl refl
+waiters-good-in-any-wait = wrong-at tt (oneAwaited, (tasks (first ∷ held 1 ∷ []), tt)) refl tt (λ b. b) refl refl
 
 -- a waiter that is no task's number is passed over: 33
 abbrev onlyOfTasks : List Task → Ecb → Bool
@@ -94,7 +94,7 @@ pub needs-good-by-all-wait-bits :
 unfolding tables-open
 needs-good-by-all-wait-bits = record {
   lifetimes = tt;
-  given = (events (awaited 2 ∷ awaited 3 ∷ []), (family (first ∷ waiting 1 2 ∷ waiting 1 1 ∷ []), tt));
+  given = (events (awaited 2 ∷ awaited 3 ∷ []), (tasks (first ∷ waiting 1 2 ∷ waiting 1 1 ∷ []), tt));
   fitting = refl;
   asked = tt;
   broken = λ e p. told-apart p (λ b. b) refl refl;
@@ -149,7 +149,7 @@ pub wait-bits-left-not-the-ended :
     (a .0 .ecbs)))
 unfolding tables-open
 wait-bits-left-not-the-ended =
-    wrong-at tt (oneAwaited, (family (first ∷ ended 1 ∷ []), tt)) refl tt (λ e. waitBit (ecbAt (e .ecbs) 0)) refl refl
+    wrong-at tt (oneAwaited, (tasks (first ∷ ended 1 ∷ []), tt)) refl tt (λ e. waitBit (ecbAt (e .ecbs) 0)) refl refl
 
 -- the whole word goes, and not the bit alone: an ECB without a waiter loses its code
 pub wait-bits-left-the-whole-word :

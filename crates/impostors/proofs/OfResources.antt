@@ -1,5 +1,5 @@
--- Wrong answers that the contracts of `resources` rule out.
-use mathlib.Core.Path.{refl, _≡_}
+-- Wrong answers that the contracts of `resources`, but for its two bodies, rule out.
+use mathlib.Core.Path.{refl}
 use mathlib.Core.Bool.{Bool, true, false, not, _&&_}
 use mathlib.Core.List.{List, [], _∷_, map}
 use Prim.Native.Nat.{ℕ, _-_}
@@ -20,37 +20,24 @@ use Rattle.kinds.specs.declared.requests.DeqRet.the-variants.{None as DeqNone, 
 use Rattle.kinds.specs.declared.replies.Verdict.{Verdict}
 use Rattle.kinds.specs.declared.replies.Refusal.the-variants.{ShortArea, NoEntryFree}
 use Rattle.kinds.specs.declared.replies.Fault.the-variants.{DuplicateEnq, DeqWithoutEntry}
-use Rattle.kinds.specs.Tasks.{isReady, inResourceWait}
-use Rattle.kinds.specs.Replies.{numberOf}
-use Rattle.kinds.specs.declared.replies.Gate.the-variants.{Open}
-use Rattle.kinds.specs.declared.replies.Reply.the-variants.{Done}
-use Rattle.rules.specs.Names.{Resource, Ask, namesGood, asksSystem, namesOf as resources, Names, sameName}
+use Rattle.rules.specs.Names.{Resource, Ask, namesGood, asksSystem, namesOf as resources, Names}
 use Rattle.rules.specs.Control.{Entry, hasEntry, available, holding}
 use Rattle.rules.specs.Tests.{refuse, fail, firstOf}
 use Rattle.rules.specs.Codes.{allZero, writtenOn}
 use Rattle.rules.specs.Table.{named, shr, exc, counted}
 use Rattle.rules.specs.Enq.{entryFor, enqGood, duplicated, toQueue, tooFewFree, enqCode, enqCodes, enqCodesDue}
-use Rattle.rules.specs.Enq.{enqVerdict, withTail, enqWritten}
-use Rattle.rules.specs.Deq.{deqCodes, deqCodesDue, unentered, deqVerdict, deqWritten}
+use Rattle.rules.specs.Enq.{enqVerdict}
+use Rattle.rules.specs.Deq.{deqCodesDue, unentered}
 use Rattle.rules.specs.SystemCases.{beginning, sysdsn, sysdsnWith}
-use Rattle.rules.specs.Family.{conditionOf}
-use Rattle.rules.specs.Steps.{Step, Outcome, withTasks, withQueue}
-use Rattle.rules.specs.Sound.{soundStep}
-use Rattle.rules.specs.Admission.{gateOf, onGo, codesThrough}
-use Rattle.laws.specs.Running.{running-parts}
-use Rattle.history.specs.Samples.{x, y, start}
+use Rattle.history.specs.Samples.{x, y}
 use Rattle.names.specs.Named.{namesIn}
-use Rattle.tasks.specs.TaskTables.{taskTableOf}
-use Rattle.tasks.specs.declared.TaskTable.{TaskTable}
-use Rattle.queue.specs.Queues.{entriesIn, storedEntries, PackedEntries}
+use Rattle.queue.specs.Queues.{entriesIn, storedEntries}
 use Rattle.queue.specs.declared.Queue.{Queue}
 use Rattle.resources.specs.Coding.{codesOf}
 use Rattle.resources.specs.Looking.{looksAs, enqLooks, deqLooks, enqFound, deqFound}
-use Rattle.resources.specs.Serving.{Admits, Both, requeuedTo, replyTo, enqBy, deqBy}
 use Rattle.resources.specs.declared.codes.Codes.{Codes}
 use Rattle.resources.specs.declared.looks.Looks.{Looks}
 use Rattle.resources.specs.declared.Found.{Found}
-use Rattle.resources.specs.declared.Served.{Served}
 use Rattle.resources.proofs.codes.enq_codes_due.Reads as enq-codes-due
 use Rattle.resources.proofs.codes.deq_codes_due.Reads as deq-codes-due
 use Rattle.resources.proofs.codes.write.Reads as write
@@ -58,19 +45,15 @@ use Rattle.resources.proofs.looks.enq_looks.Reads as enq-looks
 use Rattle.resources.proofs.looks.deq_looks.Reads as deq-looks
 use Rattle.resources.proofs.enq.enq_found.Reads as enq-found
 use Rattle.resources.proofs.deq.deq_found.Reads as deq-found
-use Rattle.resources.proofs.enq.enq_on_queue.Reads as enq-on-queue
-use Rattle.resources.proofs.deq.deq_on_queue.Reads as deq-on-queue
 use Rattle.impostors.specs.Fitting.{_⊗_, fits-Codes, fits-DeqRet, fits-NameList, fits-Queue, fits-Ret}
-use Rattle.impostors.specs.Fitting.{fits-TaskNumber, fits-end, fits-lent, fits-u32, fits-usize, fits-TaskTable}
+use Rattle.impostors.specs.Fitting.{fits-TaskNumber, fits-end, fits-lent, fits-u32, fits-usize}
 use Rattle.impostors.specs.Opened.{tables-open}
-use Rattle.impostors.specs.Samples.{task, namesOf, after, z, owned as ownedRun, awaited as awaitedRun}
-use Rattle.impostors.specs.Samples.{sharedByOne, sharesAndOwns}
-use Rattle.impostors.specs.Wrong.{RuledOut, wrong-at, RuledOutWith, wrong-with, wrong-result, wrong-area}
+use Rattle.impostors.specs.Samples.{task, namesOf}
+use Rattle.impostors.specs.Wrong.{RuledOut, wrong-at, RuledOutWith, wrong-with}
 use Rattle.impostors.specs.Parts.{ownerAndWaiter, lent, verdictNumber}
 use Rattle.impostors.specs.Verdicts.{Judge, bad, system, short, afterCodes, keepingOff, firstOnly, twoBytes}
 use Rattle.impostors.specs.Verdicts.{inMinorToo, byName, unlessTest, after104, before101, deqKeepingOff}
-use Rattle.impostors.specs.Haves.{fullBy, wholeList, noneFree, ifHave, Doing, allOrNothing, skippedQueued}
-use Rattle.impostors.specs.Haves.{skipsNothing, lastFirst, skippedMadeExclusive, neverWaits, answersZero}
+use Rattle.impostors.specs.Haves.{fullBy, wholeList, noneFree}
 
 -- the code behind n others
 abbrev code : ℕ → Codes → ℕ
@@ -488,304 +471,3 @@ deq-found-110 =
     wrong-at tt (storedEntries ownerAndWaiter, (task 1, (DeqHave, (namesOf (exc sysdsn ∷ []), (1, tt))))) refl
     (omega arith)
     (λ r. eqb (says r) 110) refl refl
-
--- BODIES
-
--- the parameters of ENQ and of DEQ
-abbrev Given : Type 0 → Type 0
-Given R = Queue × (TaskTable × (TaskNumber × (R × (NameList × (RefT (List ℕ) × Unit {0})))))
-
--- that they fit, by the RET kind's test
-abbrev fits-Given : {R : Type 0} → (R → Bool) → Given R → Bool
-fits-Given ret = fits-Queue ⊗ fits-TaskTable ⊗ fits-TaskNumber ⊗ ret ⊗ fits-NameList ⊗ fits-lent ⊗ fits-end
-
--- on the tables of a step task c asks, with these bytes as codes area
-abbrev on : {R : Type 0} → Step → ℕ → R → NameList → List ℕ → Given R
-on s c ret l area = (storedEntries (s .queue), (taskTableOf (s .tasks), (task c, (ret, (l, (lent area, tt))))))
-
--- the queue, the caller, the RET kind, the names and the codes area
-module _ {R : Type 0} where
-  abbrev queue : Given R → List Entry
-  queue a = entriesIn (a .0)
-
-  abbrev caller : Given R → TaskNumber
-  caller a = a .1 .1 .0
-
-  abbrev ret : Given R → R
-  ret a = a .1 .1 .1 .0
-
-  abbrev names : Given R → Names
-  names a = namesIn (a .1 .1 .1 .1 .0)
-
-  abbrev area : Given R → List ℕ
-  area a = now (a .1 .1 .1 .1 .1 .0)
-
--- the parameters at the end: other bytes in the codes area
-abbrev ends : {R : Type 0} → Given R → List ℕ → Given R
-ends a area =
-    (a .0, (a .1 .0, (a .1 .1 .0, (a .1 .1 .1 .0, (a .1 .1 .1 .1 .0, (at-last (a .1 .1 .1 .1 .1 .0) area, tt))))))
-
--- a sound step admits a caller
-admits : (s : Step) (c : TaskNumber) → soundStep s ≡ true → s .over ≡ false → gateOf s c ≡ Open
-    → Admits (s .queue) (s .tasks) c
-admits s c h o g = record {
-  rest = s;
-  running = running-parts s h o;
-  gate = g;
-}
-
--- task 1 owns x, and 2 is ready; then 2 waits for x
-abbrev owned : Step
-owned = after start ownedRun
-
-abbrev awaited : Step
-awaited = after start awaitedRun
-
--- task 1 shares x
-abbrev shared : Step
-shared = after start sharedByOne
-
-owned-packed : PackedEntries (storedEntries (owned .queue))
-unfolding tables-open
-owned-packed = record { form = refl; room = omega arith }
-
-awaited-packed : PackedEntries (storedEntries (awaited .queue))
-unfolding tables-open
-awaited-packed = record { form = refl; room = omega arith }
-
-shared-packed : PackedEntries (storedEntries (shared .queue))
-unfolding tables-open
-shared-packed = record { form = refl; room = omega arith }
-
--- the tables as they were, those of an answer, and these but for the family; the answer with other tables
-abbrev before : {R : Type 0} → Given R → Both
-before a = record { queue = a .0; tasks = a .1 .0 }
-
-abbrev tablesOf : Served → Both
-tablesOf r = record { queue = r .queue; tasks = r .tasks }
-
-abbrev familyAsBefore : {R : Type 0} → Given R → Served → Both
-familyAsBefore a r = record { queue = r .queue; tasks = a .1 .0 }
-
-abbrev withTables : Served → Both → Served
-withTables r t = record { verdict = r .verdict; reply = r .reply; queue = t .queue; tasks = t .tasks }
-
--- WHAT IS PROMISED OF ENQ
-abbrev enqSays : Given Ret → Verdict
-enqSays a = enqVerdict (queue a) (caller a) (ret a) (names a) (length (area a))
-
-abbrev enqAnswer : Given Ret → Served
-enqAnswer a = enqBy (enqSays a) (ret a) (a .0) (a .1 .0) (caller a .0) (names a)
-
-abbrev enqCodesOf : Given Ret → List ℕ
-enqCodesOf a = enqCodes (ret a) (queue a) (caller a .0) (names a)
-
-abbrev enqArea : Given Ret → List ℕ
-enqArea a =
-    codesThrough Open (enqSays a) (area a) (enqWritten (queue a) (caller a) (ret a) (names a) (area a))
-
--- the caller goes on without control: 2 asks for x
-pub enq-on-queue-goes-on-without-control : RuledOutWith (λ k. fits-Given fits-Ret) enq-on-queue.Pre enq-on-queue.Post
-    (λ k a. (withTables (enqAnswer a) (familyAsBefore a (enqAnswer a)), ends a (enqArea a)))
-unfolding tables-open
-enq-on-queue-goes-on-without-control =
-    wrong-result ([], tt) (on owned 2 None (namesOf (exc x ∷ [])) []) refl
-    (owned-packed, admits owned (task 2) refl refl refl)
-    (λ r. isReady (conditionOf (r .tasks .places) 2)) refl refl
-
--- the RET kind is USE
-abbrev isUse : Ret → Bool
-isUse None = false
-isUse Test = false
-isUse Use = true
-isUse Have = false
-isUse Chng = false
-
--- under USE only the first code has to be 0
-abbrev byFirstCode : Given Ret → Both
-byFirstCode a =
-    onGo (enqSays a)
-    (pick (isUse (ret a))
-    (pick (allZero (take 1 (enqCodesOf a)))
-    (requeuedTo (withTail (queue a) (caller a .0) (names a .asks)) (a .1 .0 .places))
-    (before a))
-    (tablesOf (enqAnswer a)))
-    (before a)
-
--- 2 asks by USE for y and x, with the codes 0 and 4, and is queued for y
-pub enq-on-queue-by-the-first-code : RuledOutWith (λ k. fits-Given fits-Ret) enq-on-queue.Pre enq-on-queue.Post
-    (λ k a. (withTables (enqAnswer a) (byFirstCode a), ends a (enqArea a)))
-unfolding tables-open
-enq-on-queue-by-the-first-code =
-    wrong-result ([], tt) (on owned 2 Use (namesOf (exc y ∷ exc x ∷ [])) (238 ∷ 238 ∷ [])) refl
-    (owned-packed, admits owned (task 2) refl refl refl) (λ r. hasEntry (entriesIn (r .queue)) 2 y) refl refl
-
--- the RET kind is CHNG
-abbrev isChng : Ret → Bool
-isChng None = false
-isChng Test = false
-isChng Use = false
-isChng Have = false
-isChng Chng = true
-
--- CHNG changes nothing: task 1 shares x and asks for it exclusive
-pub enq-on-queue-chng-leaves-it-shared : RuledOutWith (λ k. fits-Given fits-Ret) enq-on-queue.Pre enq-on-queue.Post
-    (λ k a. (withTables (enqAnswer a) (pick (isChng (ret a)) (before a) (tablesOf (enqAnswer a))), ends a (enqArea a)))
-unfolding tables-open
-enq-on-queue-chng-leaves-it-shared =
-    wrong-result ([], tt) (on shared 1 Chng (namesOf (exc x ∷ [])) (238 ∷ [])) refl
-    (shared-packed, admits shared (task 1) refl refl refl)
-    (λ r. every (λ (e : Entry). not (e .exclusive)) (entriesIn (r .queue))) refl refl
-
--- HAVE, wrong in each of the ways of Haves: on a step that has these entries and tasks
-abbrev stepIn : Given Ret → Step
-stepIn a = withQueue (withTasks start (a .1 .0 .places)) (queue a)
-
-abbrev havingBy : Outcome Step → Given Ret → Served
-havingBy o a = record {
-  verdict = enqSays a;
-  reply = onGo (enqSays a) (replyTo (eqb (o .number) 0)) Done;
-  queue = onGo (enqSays a) (storedEntries (o .tables .queue)) (a .0);
-  tasks = onGo (enqSays a) (taskTableOf (o .tables .tasks)) (a .1 .0);
-}
-
-abbrev having : Doing → Given Ret → Served × Given Ret
-having f a =
-    (ifHave (ret a) (havingBy (f (stepIn a) (caller a .0) (names a)) a) (enqAnswer a), ends a (enqArea a))
-
--- 1 shares x, and 2 owns y
-abbrev mixed : Step
-mixed = after start sharesAndOwns
-
-mixed-packed : PackedEntries (storedEntries (mixed .queue))
-unfolding tables-open
-mixed-packed = record { form = refl; room = omega arith }
-
--- 1 asks for x exclusive, for y, and for z: the codes are 8, 0 and 0, and it waits for y
-abbrev asksMixed : Given Ret
-asksMixed = on mixed 1 Have (namesOf (exc x ∷ exc y ∷ shr z ∷ [])) (238 ∷ 238 ∷ 238 ∷ [])
-
-mixed-asked : enq-on-queue.Pre ([], tt) asksMixed
-unfolding tables-open
-mixed-asked = (mixed-packed, admits mixed (task 1) refl refl refl)
-
--- its entry for z is there
-abbrev hasZ : Served → Bool
-hasZ r = hasEntry (entriesIn (r .queue)) 1 z
-
--- the entry behind n others
-abbrev entryAt : ℕ → Served → Entry
-entryAt n r = getD (entriesIn (r .queue)) n (entryFor 0 (exc x))
-
-pub enq-on-queue-have-all-or-nothing : RuledOutWith (λ k. fits-Given fits-Ret) enq-on-queue.Pre enq-on-queue.Post
-    (λ k a. having allOrNothing a)
-unfolding tables-open
-enq-on-queue-have-all-or-nothing =
-    wrong-result ([], tt) asksMixed refl mixed-asked (λ r. not (hasZ r)) refl refl
-
-pub enq-on-queue-have-queues-the-skipped : RuledOutWith (λ k. fits-Given fits-Ret) enq-on-queue.Pre enq-on-queue.Post
-    (λ k a. having skippedQueued a)
-unfolding tables-open
-enq-on-queue-have-queues-the-skipped =
-    wrong-result ([], tt) asksMixed refl mixed-asked (λ r. not (hasZ r)) refl refl
-
-pub enq-on-queue-have-skips-nothing : RuledOutWith (λ k. fits-Given fits-Ret) enq-on-queue.Pre enq-on-queue.Post
-    (λ k a. having skipsNothing a)
-unfolding tables-open
-enq-on-queue-have-skips-nothing =
-    wrong-result ([], tt) asksMixed refl mixed-asked (λ r. eqb (r .queue .count) 5) refl refl
-
-pub enq-on-queue-have-last-first : RuledOutWith (λ k. fits-Given fits-Ret) enq-on-queue.Pre enq-on-queue.Post
-    (λ k a. having lastFirst a)
-unfolding tables-open
-enq-on-queue-have-last-first =
-    wrong-result ([], tt) asksMixed refl mixed-asked (λ r. sameName (entryAt 2 r .name) z) refl refl
-
-pub enq-on-queue-have-makes-exclusive : RuledOutWith (λ k. fits-Given fits-Ret) enq-on-queue.Pre enq-on-queue.Post
-    (λ k a. having skippedMadeExclusive a)
-unfolding tables-open
-enq-on-queue-have-makes-exclusive =
-    wrong-result ([], tt) asksMixed refl mixed-asked (λ r. entryAt 0 r .exclusive) refl refl
-
-pub enq-on-queue-have-never-waits : RuledOutWith (λ k. fits-Given fits-Ret) enq-on-queue.Pre enq-on-queue.Post
-    (λ k a. having neverWaits a)
-unfolding tables-open
-enq-on-queue-have-never-waits =
-    wrong-result ([], tt) asksMixed refl mixed-asked
-    (λ r. isReady (conditionOf (r .tasks .places) 1)) refl refl
-
-pub enq-on-queue-have-answers-0 : RuledOutWith (λ k. fits-Given fits-Ret) enq-on-queue.Pre enq-on-queue.Post
-    (λ k a. having answersZero a)
-unfolding tables-open
-enq-on-queue-have-answers-0 =
-    wrong-result ([], tt) asksMixed refl mixed-asked (λ r. eqb (numberOf (r .reply)) 0) refl refl
-
--- NONE writes codes: 2 asks for y, with an area of one byte
-pub enq-on-queue-codes-under-none : RuledOutWith (λ k. fits-Given fits-Ret) enq-on-queue.Pre enq-on-queue.Post
-    (λ k a. (enqAnswer a, ends a (codesThrough Open (enqSays a) (area a) (writtenOn (enqCodesOf a) (area a)))))
-unfolding tables-open
-enq-on-queue-codes-under-none =
-    wrong-area ([], tt) (on owned 2 None (namesOf (exc y ∷ [])) (238 ∷ [])) refl
-    (owned-packed, admits owned (task 2) refl refl refl) (λ l. eqb (getD l 0 0) 0) refl refl
-
--- WHAT IS PROMISED OF DEQ
-abbrev deqSays : Given DeqRet → Verdict
-deqSays a = deqVerdict (queue a) (caller a) (ret a) (names a) (length (area a))
-
-abbrev deqAnswer : Given DeqRet → Served
-deqAnswer a = deqBy (deqSays a) (ret a) (a .0) (a .1 .0) (caller a .0) (names a)
-
-abbrev deqCodesOf : Given DeqRet → List ℕ
-deqCodesOf a = deqCodes (ret a) (queue a) (caller a .0) (names a)
-
-abbrev deqArea : Given DeqRet → List ℕ
-deqArea a =
-    codesThrough Open (deqSays a) (area a) (deqWritten (queue a) (caller a) (ret a) (names a) (area a))
-
--- nobody is granted what was released: task 1 gives x back, for which 2 waits
-pub deq-on-queue-grants-nothing : RuledOutWith (λ k. fits-Given fits-DeqRet) deq-on-queue.Pre deq-on-queue.Post
-    (λ k a. (withTables (deqAnswer a) (familyAsBefore a (deqAnswer a)), ends a (deqArea a)))
-unfolding tables-open
-deq-on-queue-grants-nothing =
-    wrong-result ([], tt) (on awaited 1 DeqNone (namesOf (exc x ∷ [])) []) refl
-    (awaited-packed, admits awaited (task 1) refl refl refl)
-    (λ r. inResourceWait (conditionOf (r .tasks .places) 2)) refl refl
-
--- the answer is 0 although a code is 8: task 1 gives y back, and has no entry for it
-pub deq-on-queue-says-0-with-a-code-8 : RuledOutWith (λ k. fits-Given fits-DeqRet) deq-on-queue.Pre deq-on-queue.Post
-    (λ k a. (
-      record {
-        verdict = deqSays a;
-        reply = Done;
-        queue = deqAnswer a .queue;
-        tasks = deqAnswer a .tasks;
-      },
-      ends a (deqArea a),
-    ))
-unfolding tables-open
-deq-on-queue-says-0-with-a-code-8 =
-    wrong-result ([], tt) (on owned 1 DeqHave (namesOf (exc y ∷ [])) (238 ∷ [])) refl
-    (owned-packed, admits owned (task 1) refl refl refl) (λ r. eqb (numberOf (r .reply)) 0) refl refl
-
--- nothing is released unless every code is 0: task 1 gives x and y back by HAVE, and has x only
-pub deq-on-queue-all-or-nothing : RuledOutWith (λ k. fits-Given fits-DeqRet) deq-on-queue.Pre deq-on-queue.Post
-    (λ k a. (
-      withTables (deqAnswer a) (pick (allZero (deqCodesOf a)) (tablesOf (deqAnswer a)) (before a)),
-      ends a (deqArea a),
-    ))
-unfolding tables-open
-deq-on-queue-all-or-nothing =
-    wrong-result ([], tt) (on owned 1 DeqHave (namesOf (exc x ∷ exc y ∷ [])) (238 ∷ 238 ∷ [])) refl
-    (owned-packed, admits owned (task 1) refl refl refl) (λ r. hasEntry (entriesIn (r .queue)) 1 x) refl refl
-
--- the codes are found after the entries have gone: task 1 gives x back by HAVE, and the code is 8
-pub deq-on-queue-codes-after-the-release : RuledOutWith (λ k. fits-Given fits-DeqRet) deq-on-queue.Pre deq-on-queue.Post
-    (λ k a. (
-      deqAnswer a,
-      ends a (codesThrough Open (deqSays a) (area a)
-          (deqWritten (entriesIn (deqAnswer a .queue)) (caller a) (ret a) (names a) (area a))),
-    ))
-unfolding tables-open
-deq-on-queue-codes-after-the-release =
-    wrong-area ([], tt) (on owned 1 DeqHave (namesOf (exc x ∷ [])) (238 ∷ [])) refl
-    (owned-packed, admits owned (task 1) refl refl refl) (λ l. eqb (getD l 0 0) 8) refl refl

@@ -1,25 +1,37 @@
 -- Wrong answers that the contracts of the two bodies of `resources` rule out, over all tables.
 use mathlib.Core.Path.{refl}
+use mathlib.Core.Bool.{Bool, true, false, not}
 use mathlib.Core.List.{List, [], _∷_}
 use Prim.Native.Nat.{ℕ}
 use lib.Dec.{eqb}
-use lib.ListN.{length}
+use lib.ListN.{length, take, getD}
 use denote.Ref.{RefT, now, at-last}
+use Rattle.lists.specs.Lists.{every}
+use Rattle.lists.specs.Pick.{pick}
 use Rattle.kinds.specs.Tasks.{isReady, inResourceWait}
 use Rattle.kinds.specs.declared.numbers.TaskNumber.{TaskNumber}
 use Rattle.kinds.specs.declared.names.NameList.{NameList}
 use Rattle.kinds.specs.declared.requests.Ret.{Ret}
-use Rattle.kinds.specs.declared.requests.Ret.the-variants.{None}
+use Rattle.kinds.specs.declared.requests.Ret.the-variants.{None, Test, Use, Have, Chng}
 use Rattle.kinds.specs.declared.requests.DeqRet.{DeqRet}
-use Rattle.kinds.specs.declared.requests.DeqRet.the-variants.{None as DeqNone}
-use Rattle.rules.specs.Table.{exc}
-use Rattle.rules.specs.Steps.{Step, withTasks, withQueue}
+use Rattle.kinds.specs.declared.requests.DeqRet.the-variants.{None as DeqNone, Have as DeqHave}
+use Rattle.kinds.specs.declared.replies.Gate.the-variants.{Open}
+use Rattle.kinds.specs.declared.replies.Verdict.{Verdict}
+use Rattle.rules.specs.Names.{Names, sameName}
+use Rattle.rules.specs.Control.{Entry, hasEntry}
+use Rattle.rules.specs.Codes.{allZero, writtenOn}
+use Rattle.rules.specs.Table.{shr, exc}
+use Rattle.rules.specs.Steps.{Step, Outcome, done, withTasks, withQueue}
+use Rattle.rules.specs.ResourceWaits.{requeued}
+use Rattle.rules.specs.Admission.{codesThrough}
 use Rattle.rules.specs.Family.{conditionOf}
-use Rattle.rules.specs.Enq.{enqVerdict, enqDone}
-use Rattle.rules.specs.Deq.{deqVerdict, deqDone}
-use Rattle.history.specs.Samples.{x, start}
+use Rattle.rules.specs.Enq.{entryFor, enqCodes, withTail, enqVerdict, enqDone}
+use Rattle.rules.specs.Deq.{deqCodes, deqVerdict, deqDone, deqWritten}
+use Rattle.history.specs.Samples.{x, y, start}
 use Rattle.names.specs.Named.{namesIn}
+use Rattle.queue.specs.Queues.{entriesIn}
 use Rattle.tables.specs.Tables.{stepOf, tablesOf, Admitted}
+use Rattle.tables.specs.Bodies.{Told}
 use Rattle.tables.specs.declared.AllTables.{AllTables}
 use Rattle.tables.specs.declared.made.Made.{Made}
 use Rattle.resources.specs.Serving.{enqLeaves, deqLeaves}
@@ -28,94 +40,277 @@ use Rattle.resources.proofs.deq.served.Reads as deq-served
 use Rattle.impostors.specs.Fitting.{_⊗_, fits-AllTables, fits-DeqRet, fits-NameList, fits-Ret, fits-TaskNumber}
 use Rattle.impostors.specs.Fitting.{fits-end, fits-lent}
 use Rattle.impostors.specs.Opened.{tables-open}
-use Rattle.impostors.specs.Samples.{task, namesOf, after, owned as ownedRun, awaited as awaitedRun}
-use Rattle.impostors.specs.Wrong.{RuledOutWith, wrong-result}
+use Rattle.impostors.specs.Samples.{task, namesOf, after, z, owned as ownedRun, awaited as awaitedRun}
+use Rattle.impostors.specs.Samples.{sharedByOne, sharesAndOwns}
+use Rattle.impostors.specs.Wrong.{RuledOutWith, wrong-result, wrong-area}
 use Rattle.impostors.specs.Answers.{but}
 use Rattle.impostors.specs.Parts.{lent, making}
+use Rattle.impostors.specs.Haves.{ifHave, Doing, allOrNothing, skippedQueued, skipsNothing, lastFirst}
+use Rattle.impostors.specs.Haves.{skippedMadeExclusive, neverWaits, answersZero}
 
--- what a body is given, with a RET kind of R, and what is left of it where the area then holds l
+-- what a body is given, with a RET kind of R; that it fits, by the RET kind's test
 abbrev Given : Type 0 → Type 0
 Given R = AllTables × (TaskNumber × (R × (NameList × (RefT (List ℕ) × Unit {0}))))
 
-abbrev ends : {R : Type 0} → Given R → List ℕ → Given R
-ends a l = (a .0, (a .1 .0, (a .1 .1 .0, (a .1 .1 .1 .0, (at-last (a .1 .1 .1 .1 .0) l, tt)))))
+abbrev fits-Given : {R : Type 0} → (R → Bool) → Given R → Bool
+fits-Given ret = fits-AllTables ⊗ fits-TaskNumber ⊗ ret ⊗ fits-NameList ⊗ fits-lent ⊗ fits-end
 
--- task n asks for x
-abbrev on : {R : Type 0} → Step → ℕ → R → Given R
-on s n ret = (tablesOf s, (task n, (ret, (namesOf (exc x ∷ []), (lent [], tt)))))
+-- on the tables of a step task n asks, with these bytes as codes area
+abbrev on : {R : Type 0} → Step → ℕ → R → NameList → List ℕ → Given R
+on s n ret l area = (tablesOf s, (task n, (ret, (l, (lent area, tt)))))
 
--- x is task 1's; and 2 waits for it
+module _ {R : Type 0} (a : Given R) where
+  abbrev step : Step
+  step = stepOf (a .0)
+
+  abbrev caller : TaskNumber
+  caller = a .1 .0
+
+  abbrev ret : R
+  ret = a .1 .1 .0
+
+  abbrev names : Names
+  names = namesIn (a .1 .1 .1 .0)
+
+  abbrev area : List ℕ
+  area = now (a .1 .1 .1 .1 .0)
+
+  -- a body by this verdict and outcome, and what is left of what it was given, where the area then holds l
+  abbrev ends : Verdict → Outcome Step → List ℕ → Made × Given R
+  ends v o l =
+      (making v (a .0) o, (a .0, (a .1 .0, (a .1 .1 .0, (a .1 .1 .1 .0, (at-last (a .1 .1 .1 .1 .0) l, tt))))))
+
+-- task 1 owns x, and 2 is ready; then 2 waits for x
 abbrev owned : Step
 owned = after start ownedRun
 
 abbrev awaited : Step
 awaited = after start awaitedRun
 
-owned-admits : Admitted (tablesOf owned) (task 2)
+-- 1 shares x; and 2 owns y
+abbrev shared : Step
+shared = after start sharedByOne
+
+abbrev mixed : Step
+mixed = after start sharesAndOwns
+
+owned-admits-1 : Admitted (tablesOf owned) (task 1)
 unfolding tables-open
-owned-admits = record { sound = refl; gate = refl }
+owned-admits-1 = record { sound = refl; gate = refl }
+
+owned-admits-2 : Admitted (tablesOf owned) (task 2)
+unfolding tables-open
+owned-admits-2 = record { sound = refl; gate = refl }
 
 awaited-admits : Admitted (tablesOf awaited) (task 1)
 unfolding tables-open
 awaited-admits = record { sound = refl; gate = refl }
 
--- ENQ, but for the step that it leaves
-abbrev enqMade : (Step → Step → Step) → Given Ret → Made
-enqMade f a =
-    let s = stepOf (a .0) in
-    let ns = namesIn (a .1 .1 .1 .0) in
-    making (enqVerdict (s .queue) (a .1 .0) (a .1 .1 .0) ns (length (a .1 .1 .1 .1 .0 .now))) (a .0)
-    (but (enqDone s (a .1 .0) (a .1 .1 .0) ns) (f s))
+shared-admits : Admitted (tablesOf shared) (task 1)
+unfolding tables-open
+shared-admits = record { sound = refl; gate = refl }
 
-abbrev enqArea : Given Ret → List ℕ
-enqArea a = enqLeaves (a .0 .queue) (a .1 .0) (a .1 .1 .0) (namesIn (a .1 .1 .1 .0)) (a .1 .1 .1 .1 .0 .now)
+mixed-admits : Admitted (tablesOf mixed) (task 1)
+unfolding tables-open
+mixed-admits = record { sound = refl; gate = refl }
+
+-- the entries that are told of
+abbrev entries : Told → List Entry
+entries o = entriesIn (o .outcome .tables .queue)
+
+-- ENQ: its verdict, what the rules make, its codes and the area
+module _ (a : Given Ret) where
+  abbrev enqSays : Verdict
+  enqSays = enqVerdict (step a .queue) (caller a) (ret a) (names a) (length (area a))
+
+  abbrev enqRight : Outcome Step
+  enqRight = enqDone (step a) (caller a) (ret a) (names a)
+
+  abbrev enqCodesOf : List ℕ
+  enqCodesOf = enqCodes (ret a) (step a .queue) (caller a .0) (names a)
+
+  abbrev enqArea : List ℕ
+  enqArea = enqLeaves (a .0 .queue) (caller a) (ret a) (names a) (area a)
+
+  -- with another outcome
+  abbrev enqMade : Outcome Step → Made × Given Ret
+  enqMade o = ends a enqSays o enqArea
 
 -- the caller goes on without control: 2 asks for x
-pub enq-served-goes-on-without-control :
-    RuledOutWith (λ k. fits-AllTables ⊗ fits-TaskNumber ⊗ fits-Ret ⊗ fits-NameList ⊗ fits-lent ⊗ fits-end)
-    enq-served.Pre enq-served.Post
-    (λ k a. (enqMade (λ s u. withTasks u (s .tasks)) a, ends a (enqArea a)))
+pub enq-served-goes-on-without-control : RuledOutWith (λ k. fits-Given fits-Ret) enq-served.Pre enq-served.Post
+    (λ k a. enqMade a (but (enqRight a) (λ u. withTasks u (step a .tasks))))
 unfolding tables-open
 enq-served-goes-on-without-control =
-    wrong-result ([], tt) (on owned 2 None) refl owned-admits
+    wrong-result ([], tt) (on owned 2 None (namesOf (exc x ∷ [])) []) refl owned-admits-2
     (λ o. isReady (conditionOf (o .outcome .tables .tasks .places) 2)) refl refl
 
 -- the entry that is queued is lost
-pub enq-served-entry-lost :
-    RuledOutWith (λ k. fits-AllTables ⊗ fits-TaskNumber ⊗ fits-Ret ⊗ fits-NameList ⊗ fits-lent ⊗ fits-end)
-    enq-served.Pre enq-served.Post
-    (λ k a. (enqMade (λ s u. withQueue u (s .queue)) a, ends a (enqArea a)))
+pub enq-served-entry-lost : RuledOutWith (λ k. fits-Given fits-Ret) enq-served.Pre enq-served.Post
+    (λ k a. enqMade a (but (enqRight a) (λ u. withQueue u (step a .queue))))
 unfolding tables-open
 enq-served-entry-lost =
-    wrong-result ([], tt) (on owned 2 None) refl owned-admits (λ o. eqb (o .outcome .tables .queue .count) 1) refl refl
+    wrong-result ([], tt) (on owned 2 None (namesOf (exc x ∷ [])) []) refl owned-admits-2
+    (λ o. eqb (o .outcome .tables .queue .count) 1) refl refl
 
--- DEQ, but for the step that it leaves
-abbrev deqMade : (Step → Step → Step) → Given DeqRet → Made
-deqMade f a =
-    let s = stepOf (a .0) in
-    let ns = namesIn (a .1 .1 .1 .0) in
-    making (deqVerdict (s .queue) (a .1 .0) (a .1 .1 .0) ns (length (a .1 .1 .1 .1 .0 .now))) (a .0)
-    (but (deqDone s (a .1 .0) (a .1 .1 .0) ns) (f s))
+-- the RET kind is USE; CHNG
+abbrev isUse : Ret → Bool
+isUse None = false
+isUse Test = false
+isUse Use = true
+isUse Have = false
+isUse Chng = false
 
-abbrev deqArea : Given DeqRet → List ℕ
-deqArea a = deqLeaves (a .0 .queue) (a .1 .0) (a .1 .1 .0) (namesIn (a .1 .1 .1 .0)) (a .1 .1 .1 .1 .0 .now)
+abbrev isChng : Ret → Bool
+isChng None = false
+isChng Test = false
+isChng Use = false
+isChng Have = false
+isChng Chng = true
+
+-- under USE only the first code has to be 0
+abbrev byFirstCode : Given Ret → Step
+byFirstCode a =
+    pick (allZero (take 1 (enqCodesOf a)))
+    (requeued (step a) (withTail (step a .queue) (caller a .0) (names a .asks))) (step a)
+
+-- 2 asks by USE for y and x, with the codes 0 and 4, and is queued for y
+pub enq-served-by-the-first-code : RuledOutWith (λ k. fits-Given fits-Ret) enq-served.Pre enq-served.Post
+    (λ k a. enqMade a (but (enqRight a) (λ u. pick (isUse (ret a)) (byFirstCode a) u)))
+unfolding tables-open
+enq-served-by-the-first-code =
+    wrong-result ([], tt) (on owned 2 Use (namesOf (exc y ∷ exc x ∷ [])) (238 ∷ 238 ∷ [])) refl owned-admits-2
+    (λ o. hasEntry (entries o) 2 y) refl refl
+
+-- CHNG changes nothing: task 1 shares x and asks for it exclusive
+pub enq-served-chng-leaves-it-shared : RuledOutWith (λ k. fits-Given fits-Ret) enq-served.Pre enq-served.Post
+    (λ k a. enqMade a (but (enqRight a) (λ u. pick (isChng (ret a)) (step a) u)))
+unfolding tables-open
+enq-served-chng-leaves-it-shared =
+    wrong-result ([], tt) (on shared 1 Chng (namesOf (exc x ∷ [])) (238 ∷ [])) refl shared-admits
+    (λ o. every (λ (e : Entry). not (e .exclusive)) (entries o)) refl refl
+
+-- NONE writes codes: 2 asks for y, with an area of one byte
+pub enq-served-codes-under-none : RuledOutWith (λ k. fits-Given fits-Ret) enq-served.Pre enq-served.Post
+    (λ k a. ends a (enqSays a) (enqRight a)
+    (codesThrough Open (enqSays a) (area a) (writtenOn (enqCodesOf a) (area a))))
+unfolding tables-open
+enq-served-codes-under-none =
+    wrong-area ([], tt) (on owned 2 None (namesOf (exc y ∷ [])) (238 ∷ [])) refl owned-admits-2
+    (λ l. eqb (getD l 0 0) 0) refl refl
+
+-- HAVE, wrong in each of the ways of Haves
+abbrev having : Doing → Given Ret → Made × Given Ret
+having f a = enqMade a (ifHave (ret a) (f (step a) (caller a .0) (names a)) (enqRight a))
+
+-- 1 asks for x exclusive, for y, and for z: the codes are 8, 0 and 0, and it waits for y
+abbrev asksMixed : Given Ret
+asksMixed = on mixed 1 Have (namesOf (exc x ∷ exc y ∷ shr z ∷ [])) (238 ∷ 238 ∷ 238 ∷ [])
+
+-- its entry for z is there; the entry behind n others
+abbrev hasZ : Told → Bool
+hasZ o = hasEntry (entries o) 1 z
+
+abbrev entryAt : ℕ → Told → Entry
+entryAt n o = getD (entries o) n (entryFor 0 (exc x))
+
+pub enq-served-have-all-or-nothing : RuledOutWith (λ k. fits-Given fits-Ret) enq-served.Pre enq-served.Post
+    (λ k a. having allOrNothing a)
+unfolding tables-open
+enq-served-have-all-or-nothing =
+    wrong-result ([], tt) asksMixed refl mixed-admits (λ o. not (hasZ o)) refl refl
+
+pub enq-served-have-queues-the-skipped : RuledOutWith (λ k. fits-Given fits-Ret) enq-served.Pre enq-served.Post
+    (λ k a. having skippedQueued a)
+unfolding tables-open
+enq-served-have-queues-the-skipped =
+    wrong-result ([], tt) asksMixed refl mixed-admits (λ o. not (hasZ o)) refl refl
+
+pub enq-served-have-skips-nothing : RuledOutWith (λ k. fits-Given fits-Ret) enq-served.Pre enq-served.Post
+    (λ k a. having skipsNothing a)
+unfolding tables-open
+enq-served-have-skips-nothing =
+    wrong-result ([], tt) asksMixed refl mixed-admits (λ o. eqb (o .outcome .tables .queue .count) 5) refl refl
+
+pub enq-served-have-last-first : RuledOutWith (λ k. fits-Given fits-Ret) enq-served.Pre enq-served.Post
+    (λ k a. having lastFirst a)
+unfolding tables-open
+enq-served-have-last-first =
+    wrong-result ([], tt) asksMixed refl mixed-admits (λ o. sameName (entryAt 2 o .name) z) refl refl
+
+pub enq-served-have-makes-exclusive : RuledOutWith (λ k. fits-Given fits-Ret) enq-served.Pre enq-served.Post
+    (λ k a. having skippedMadeExclusive a)
+unfolding tables-open
+enq-served-have-makes-exclusive =
+    wrong-result ([], tt) asksMixed refl mixed-admits (λ o. entryAt 0 o .exclusive) refl refl
+
+pub enq-served-have-never-waits : RuledOutWith (λ k. fits-Given fits-Ret) enq-served.Pre enq-served.Post
+    (λ k a. having neverWaits a)
+unfolding tables-open
+enq-served-have-never-waits =
+    wrong-result ([], tt) asksMixed refl mixed-admits
+    (λ o. isReady (conditionOf (o .outcome .tables .tasks .places) 1)) refl refl
+
+pub enq-served-have-answers-0 : RuledOutWith (λ k. fits-Given fits-Ret) enq-served.Pre enq-served.Post
+    (λ k a. having answersZero a)
+unfolding tables-open
+enq-served-have-answers-0 =
+    wrong-result ([], tt) asksMixed refl mixed-admits (λ o. eqb (o .outcome .number) 0) refl refl
+
+-- DEQ: its verdict, what the rules make, its codes and the area
+module _ (a : Given DeqRet) where
+  abbrev deqSays : Verdict
+  deqSays = deqVerdict (step a .queue) (caller a) (ret a) (names a) (length (area a))
+
+  abbrev deqRight : Outcome Step
+  deqRight = deqDone (step a) (caller a) (ret a) (names a)
+
+  abbrev deqCodesOf : List ℕ
+  deqCodesOf = deqCodes (ret a) (step a .queue) (caller a .0) (names a)
+
+  abbrev deqArea : List ℕ
+  deqArea = deqLeaves (a .0 .queue) (caller a) (ret a) (names a) (area a)
+
+  -- with another outcome
+  abbrev deqMade : Outcome Step → Made × Given DeqRet
+  deqMade o = ends a deqSays o deqArea
 
 -- nobody is granted what was released: task 1 gives x back, for which 2 waits
-pub deq-served-grants-nothing :
-    RuledOutWith (λ k. fits-AllTables ⊗ fits-TaskNumber ⊗ fits-DeqRet ⊗ fits-NameList ⊗ fits-lent ⊗ fits-end)
-    deq-served.Pre deq-served.Post
-    (λ k a. (deqMade (λ s u. withTasks u (s .tasks)) a, ends a (deqArea a)))
+pub deq-served-grants-nothing : RuledOutWith (λ k. fits-Given fits-DeqRet) deq-served.Pre deq-served.Post
+    (λ k a. deqMade a (but (deqRight a) (λ u. withTasks u (step a .tasks))))
 unfolding tables-open
 deq-served-grants-nothing =
-    wrong-result ([], tt) (on awaited 1 DeqNone) refl awaited-admits
+    wrong-result ([], tt) (on awaited 1 DeqNone (namesOf (exc x ∷ [])) []) refl awaited-admits
     (λ o. inResourceWait (conditionOf (o .outcome .tables .tasks .places) 2)) refl refl
 
 -- the entry that is given back stays in the queue
-pub deq-served-entry-stays :
-    RuledOutWith (λ k. fits-AllTables ⊗ fits-TaskNumber ⊗ fits-DeqRet ⊗ fits-NameList ⊗ fits-lent ⊗ fits-end)
-    deq-served.Pre deq-served.Post
-    (λ k a. (deqMade (λ s u. withQueue u (s .queue)) a, ends a (deqArea a)))
+pub deq-served-entry-stays : RuledOutWith (λ k. fits-Given fits-DeqRet) deq-served.Pre deq-served.Post
+    (λ k a. deqMade a (but (deqRight a) (λ u. withQueue u (step a .queue))))
 unfolding tables-open
 deq-served-entry-stays =
-    wrong-result ([], tt) (on awaited 1 DeqNone) refl awaited-admits (λ o. eqb (o .outcome .tables .queue .count) 2)
-    refl refl
+    wrong-result ([], tt) (on awaited 1 DeqNone (namesOf (exc x ∷ [])) []) refl awaited-admits
+    (λ o. eqb (o .outcome .tables .queue .count) 2) refl refl
+
+-- the answer is 0 although a code is 8: task 1 gives y back, and has no entry for it
+pub deq-served-says-0-with-a-code-8 : RuledOutWith (λ k. fits-Given fits-DeqRet) deq-served.Pre deq-served.Post
+    (λ k a. deqMade a (done (deqRight a .tables)))
+unfolding tables-open
+deq-served-says-0-with-a-code-8 =
+    wrong-result ([], tt) (on owned 1 DeqHave (namesOf (exc y ∷ [])) (238 ∷ [])) refl owned-admits-1
+    (λ o. eqb (o .outcome .number) 0) refl refl
+
+-- nothing is released unless every code is 0: task 1 gives x and y back by HAVE, and has x only
+pub deq-served-all-or-nothing : RuledOutWith (λ k. fits-Given fits-DeqRet) deq-served.Pre deq-served.Post
+    (λ k a. deqMade a (but (deqRight a) (λ u. pick (allZero (deqCodesOf a)) u (step a))))
+unfolding tables-open
+deq-served-all-or-nothing =
+    wrong-result ([], tt) (on owned 1 DeqHave (namesOf (exc x ∷ exc y ∷ [])) (238 ∷ 238 ∷ [])) refl owned-admits-1
+    (λ o. hasEntry (entries o) 1 x) refl refl
+
+-- the codes are found after the entries have gone: task 1 gives x back by HAVE, and the code is 8
+pub deq-served-codes-after-the-release : RuledOutWith (λ k. fits-Given fits-DeqRet) deq-served.Pre deq-served.Post
+    (λ k a. ends a (deqSays a) (deqRight a) (codesThrough Open (deqSays a) (area a)
+    (deqWritten (deqRight a .tables .queue) (caller a) (ret a) (names a) (area a))))
+unfolding tables-open
+deq-served-codes-after-the-release =
+    wrong-area ([], tt) (on owned 1 DeqHave (namesOf (exc x ∷ [])) (238 ∷ [])) refl owned-admits-1
+    (λ l. eqb (getD l 0 0) 8) refl refl

@@ -44,18 +44,18 @@ use Rattle.impostors.specs.Opened.{tables-open}
 use Rattle.impostors.specs.Wrong.{RuledOut, wrong-at, Heeds, heeds}
 use Rattle.impostors.specs.Samples.{task}
 use Rattle.impostors.specs.Answers.{retold}
-use Rattle.impostors.specs.Parts.{verdictNumber, goes, family, first, ready, ended, making}
+use Rattle.impostors.specs.Parts.{verdictNumber, goes, tasks, first, ready, ended, making}
 use Rattle.impostors.proofs.OfTablesEnding.{four, oneLeft, task-1-alone, task-2-of-three, task-1-of-four}
 use Rattle.impostors.proofs.OfTablesEnding.{task-2-of-four, task-2-of-one-left, conditionIn, postedIn, leftWith}
 use Rattle.impostors.proofs.OfTablesEnding.{leftAlone, leftWaiting, ending, Ending, endedAs, end-of-1, end-of-2}
 
 -- 2 is task 1's daughter, 3 is 2's, 4 is 3's
 abbrev line : TaskTable
-line = family (first ∷ ready 1 ∷ ready 2 ∷ ready 3 ∷ [])
+line = tasks (first ∷ ready 1 ∷ ready 2 ∷ ready 3 ∷ [])
 
 -- 2 is task 1's daughter, 3 is 2's and has ended, and is not detached
 abbrev oneEnded : TaskTable
-oneEnded = family (first ∷ ready 1 ∷ ended 2 ∷ [])
+oneEnded = tasks (first ∷ ready 1 ∷ ended 2 ∷ [])
 
 -- ATTACH: task 1 of a fresh step, 200/150, with LPMOD 30 and a DPMOD
 abbrev Asks : Type 0

@@ -2,12 +2,12 @@
 use Prim.Native.Nat.{ℕ, _+_, _-_}
 use mathlib.Core.Path.{refl}
 use mathlib.Core.Bool.{Bool, not, _&&_, _||_}
-use mathlib.Core.List.{List, [], _∷_, map}
+use mathlib.Core.List.{List, [], _∷_}
 use native.Mathlib.Omega.{arith}
 use lib.Dec.{eqb, leb}
 use lib.ListN.{getD, set, replicate, take}
 use Rattle.lists.specs.Pick.{pick}
-use Rattle.lists.specs.Lists.{every, some, howMany, firstAt, numbers}
+use Rattle.lists.specs.Lists.{every, some, howMany, firstAt}
 use Rattle.kinds.specs.Limits.{highestTask}
 use Rattle.kinds.specs.Tasks.{noTask, isFree, isLive, isReady}
 use Rattle.kinds.specs.declared.tasks.Task.{Task}
@@ -15,7 +15,7 @@ use Rattle.kinds.specs.declared.tasks.Condition.{Condition}
 use Rattle.kinds.specs.declared.tasks.Condition.the-variants.{Free, Ready}
 use Rattle.kinds.specs.declared.tasks.MaybeEcb.the-variants.{NoEcb}
 use Rattle.rules.specs.Table.{rowOf}
-use Rattle.rules.specs.Family.{place, withPlace, conditionOf, live, used, directSubtask, hasSubtasks, below, chain}
+use Rattle.rules.specs.Family.{place, withPlace, conditionOf, live, used, directSubtask, hasSubtasks, below}
 use Rattle.laws.specs.Wiping.{inUse}
 use Rattle.tasks.specs.TaskTables.{taskTableOf}
 use Rattle.tasks.specs.declared.TaskTable.{TaskTable}
@@ -26,14 +26,13 @@ use Rattle.tasks.proofs.at.Reads as at
 use Rattle.tasks.proofs.is_live.Reads as is-live
 use Rattle.tasks.proofs.in_use.Reads as in-use
 use Rattle.tasks.proofs.with_place.Reads as with-place
-use Rattle.tasks.proofs.is_below.Reads as is-below
 use Rattle.tasks.proofs.direct.is_subtask.Reads as is-subtask
 use Rattle.tasks.proofs.direct.has_subtasks.Reads as has-subtasks
 use Rattle.impostors.specs.Fitting.{_⊗_, fits-TaskTable, fits-Task, fits-TaskNumber, fits-end}
 use Rattle.impostors.specs.Opened.{tables-open}
 use Rattle.impostors.specs.Wrong.{RuledOut, wrong-at, told-apart}
 use Rattle.impostors.specs.Samples.{task, ecb}
-use Rattle.impostors.specs.Parts.{lastBest, family, first, ready, waiting, ended}
+use Rattle.impostors.specs.Parts.{lastBest, tasks, first, ready, waiting, ended}
 
 -- a ready daughter of task 1 with these priorities
 abbrev prior : ℕ → ℕ → Task
@@ -46,7 +45,7 @@ pub lowest-free-counts-the-tasks :
 unfolding tables-open
 lowest-free-counts-the-tasks = record {
   lifetimes = tt;
-  given = (family (first ∷ noTask ∷ ready 1 ∷ []), tt);
+  given = (tasks (first ∷ noTask ∷ ready 1 ∷ []), tt);
   fitting = refl;
   asked = tt;
   broken = λ e p. told-apart p (eqb 3) refl refl;
@@ -57,13 +56,13 @@ pub lowest-free-an-ended-place :
     RuledOut (λ k. fits-TaskTable ⊗ fits-end) lowest-free.Pre lowest-free.Post
     (λ k a. task (firstAt (λ (x : Task). not (isLive (x .condition))) 1 (a .0 .places)))
 unfolding tables-open
-lowest-free-an-ended-place = wrong-at tt (family (first ∷ ended 1 ∷ []), tt) refl tt (eqb 2) refl refl
+lowest-free-an-ended-place = wrong-at tt (tasks (first ∷ ended 1 ∷ []), tt) refl tt (eqb 2) refl refl
 
 -- the highest number among equals: 2 and not 1
 pub dispatched-the-last-among-equals : RuledOut (λ k. fits-TaskTable ⊗ fits-end) dispatched.Pre dispatched.Post
     (λ k a. task (lastBest (a .0 .places)))
 unfolding tables-open
-dispatched-the-last-among-equals = wrong-at tt (family (first ∷ ready 1 ∷ []), tt) refl tt (eqb 2) refl refl
+dispatched-the-last-among-equals = wrong-at tt (tasks (first ∷ ready 1 ∷ []), tt) refl tt (eqb 2) refl refl
 
 -- the first of those who may run that none of them is above, by this priority
 abbrev bestBy : (Condition → Bool) → (Task → ℕ) → List Task → ℕ
@@ -76,14 +75,14 @@ pub dispatched-a-waiting-task :
     RuledOut (λ k. fits-TaskTable ⊗ fits-end) dispatched.Pre dispatched.Post
     (λ k a. task (bestBy isLive (λ (x : Task). x .dispatching) (a .0 .places)))
 unfolding tables-open
-dispatched-a-waiting-task = wrong-at tt (family (waiting 0 1 ∷ ready 1 ∷ []), tt) refl tt (eqb 1) refl refl
+dispatched-a-waiting-task = wrong-at tt (tasks (waiting 0 1 ∷ ready 1 ∷ []), tt) refl tt (eqb 1) refl refl
 
 -- by the limit priority: task 1, 200/150, and not 2, 170/170
 pub dispatched-by-the-limit :
     RuledOut (λ k. fits-TaskTable ⊗ fits-end) dispatched.Pre dispatched.Post
     (λ k a. task (bestBy isReady (λ (x : Task). x .limit) (a .0 .places)))
 unfolding tables-open
-dispatched-by-the-limit = wrong-at tt (family (first ∷ prior 170 170 ∷ []), tt) refl tt (eqb 1) refl refl
+dispatched-by-the-limit = wrong-at tt (tasks (first ∷ prior 170 170 ∷ []), tt) refl tt (eqb 1) refl refl
 
 -- the places are free and not zero: each has task 1 for its mother
 pub empty-with-mothers : RuledOut (λ k. fits-end) empty.Pre empty.Post
@@ -93,7 +92,7 @@ unfolding tables-open
 empty-with-mothers = wrong-at tt tt refl tt (λ f. eqb (place (f .places) 2 .mother .0) 1) refl refl
 
 -- task 1 stands there already
-pub empty-with-task-1 : RuledOut (λ k. fits-end) empty.Pre empty.Post (λ k a. family (first ∷ []))
+pub empty-with-task-1 : RuledOut (λ k. fits-end) empty.Pre empty.Post (λ k a. tasks (first ∷ []))
 unfolding tables-open
 empty-with-task-1 = wrong-at tt tt refl tt (λ f. isReady (conditionOf (f .places) 1)) refl refl
 
@@ -101,25 +100,25 @@ empty-with-task-1 = wrong-at tt tt refl tt (λ f. isReady (conditionOf (f .place
 pub at-one-place-behind : RuledOut (λ k. fits-TaskTable ⊗ fits-TaskNumber ⊗ fits-end) at.Pre at.Post
     (λ k a. getD (a .0 .places) (a .1 .0 .0) noTask)
 unfolding tables-open
-at-one-place-behind = wrong-at tt (family (first ∷ []), (task 1, tt)) refl tt (λ x. isFree (x .condition)) refl refl
+at-one-place-behind = wrong-at tt (tasks (first ∷ []), (task 1, tt)) refl tt (λ x. isFree (x .condition)) refl refl
 
 -- number 0, which has no place, is taken for task 1
 pub at-0-is-task-1 : RuledOut (λ k. fits-TaskTable ⊗ fits-TaskNumber ⊗ fits-end) at.Pre at.Post
     (λ k a. getD (a .0 .places) (a .1 .0 .0 - 1) noTask)
 unfolding tables-open
-at-0-is-task-1 = wrong-at tt (family (first ∷ []), (task 0, tt)) refl tt (λ x. isReady (x .condition)) refl refl
+at-0-is-task-1 = wrong-at tt (tasks (first ∷ []), (task 0, tt)) refl tt (λ x. isReady (x .condition)) refl refl
 
 -- an ended task, not detached, is live
 pub is-live-when-ended : RuledOut (λ k. fits-TaskTable ⊗ fits-TaskNumber ⊗ fits-end) is-live.Pre is-live.Post
     (λ k a. used (a .0 .places) (a .1 .0 .0))
 unfolding tables-open
-is-live-when-ended = wrong-at tt (family (first ∷ ended 1 ∷ []), (task 2, tt)) refl tt (λ b. b) refl refl
+is-live-when-ended = wrong-at tt (tasks (first ∷ ended 1 ∷ []), (task 2, tt)) refl tt (λ b. b) refl refl
 
 -- a task that waits is not
 pub is-live-only-when-ready : RuledOut (λ k. fits-TaskTable ⊗ fits-TaskNumber ⊗ fits-end) is-live.Pre is-live.Post
     (λ k a. isReady (conditionOf (a .0 .places) (a .1 .0 .0)))
 unfolding tables-open
-is-live-only-when-ready = wrong-at tt (family (first ∷ waiting 1 1 ∷ []), (task 2, tt)) refl tt not refl refl
+is-live-only-when-ready = wrong-at tt (tasks (first ∷ waiting 1 1 ∷ []), (task 2, tt)) refl tt not refl refl
 
 -- the place of an ended task, not detached, is free
 pub in-use-only-when-live : RuledOut (λ k. fits-Task ⊗ fits-end) in-use.Pre in-use.Post
@@ -139,7 +138,7 @@ pub with-place-one-behind :
     (λ k a. taskTableOf (set (a .0 .places) (a .1 .0 .0) (a .1 .1 .0)))
 unfolding tables-open
 with-place-one-behind =
-    wrong-at tt (family [], (task 1, (first, tt))) refl (omega arith, omega arith)
+    wrong-at tt (tasks [], (task 1, (first, tt))) refl (omega arith, omega arith)
     (λ f. isFree (conditionOf (f .places) 1)) refl refl
 
 -- a place in use is not written over: task 2, which is to be freed, stays
@@ -149,34 +148,8 @@ pub with-place-only-where-free :
     (taskTableOf (withPlace (a .0 .places) (a .1 .0 .0) (a .1 .1 .0))))
 unfolding tables-open
 with-place-only-where-free =
-    wrong-at tt (family (first ∷ ready 1 ∷ []), (task 2, (noTask, tt))) refl (omega arith, omega arith)
+    wrong-at tt (tasks (first ∷ ready 1 ∷ []), (task 2, (noTask, tt))) refl (omega arith, omega arith)
     (λ f. isReady (conditionOf (f .places) 2)) refl refl
-
--- only direct subtasks are below: 3, the daughter of task 1's daughter 2, is not below 1
-abbrev onlyDaughters : List Task → ℕ → ℕ → Bool
-onlyDaughters ts c n = used ts n && (eqb n c || directSubtask ts c n)
-
-pub is-below-only-daughters :
-    RuledOut (λ k. fits-TaskTable ⊗ fits-TaskNumber ⊗ fits-TaskNumber ⊗ fits-end) is-below.Pre is-below.Post
-    (λ k a. onlyDaughters (a .0 .places) (a .1 .0 .0) (a .1 .1 .0 .0))
-unfolding tables-open
-is-below-only-daughters =
-    wrong-at tt (family (first ∷ ready 1 ∷ ready 2 ∷ []), (task 1, (task 3, tt))) refl tt not refl refl
-
--- every number is below itself, also 2, whose place is free
-pub is-below-itself-when-free :
-    RuledOut (λ k. fits-TaskTable ⊗ fits-TaskNumber ⊗ fits-TaskNumber ⊗ fits-end) is-below.Pre is-below.Post
-    (λ k a. eqb (a .1 .1 .0 .0) (a .1 .0 .0) || below (a .0 .places) (a .1 .0 .0) (a .1 .1 .0 .0))
-unfolding tables-open
-is-below-itself-when-free = wrong-at tt (family (first ∷ []), (task 2, (task 2, tt))) refl tt (λ b. b) refl refl
-
--- the chain is left one task too early: each of 32 tasks is the daughter of the one before, and 32 is not below 1
-pub is-below-through-31-tasks :
-    RuledOut (λ k. fits-TaskTable ⊗ fits-TaskNumber ⊗ fits-TaskNumber ⊗ fits-end) is-below.Pre is-below.Post
-    (λ k a. chain 31 (a .0 .places) (λ n. eqb n (a .1 .0 .0)) (a .1 .1 .0 .0))
-unfolding tables-open
-is-below-through-31-tasks =
-    wrong-at tt (taskTableOf (map ready (numbers 0 highestTask)), (task 1, (task 32, tt))) refl tt not refl refl
 
 -- DIRECT SUBTASKS
 
@@ -186,7 +159,7 @@ pub is-subtask-all-below :
     (λ k a. not (eqb (a .1 .1 .0 .0) (a .1 .0 .0)) && below (a .0 .places) (a .1 .0 .0) (a .1 .1 .0 .0))
 unfolding tables-open
 is-subtask-all-below =
-    wrong-at tt (family (first ∷ ready 1 ∷ ready 2 ∷ []), (task 1, (task 3, tt))) refl tt (λ b. b) refl refl
+    wrong-at tt (tasks (first ∷ ready 1 ∷ ready 2 ∷ []), (task 1, (task 3, tt))) refl tt (λ b. b) refl refl
 
 -- one that has ended and is not detached is none: 2 of task 1
 pub is-subtask-only-while-live :
@@ -194,7 +167,7 @@ pub is-subtask-only-while-live :
     (λ k a. live (a .0 .places) (a .1 .1 .0 .0) && directSubtask (a .0 .places) (a .1 .0 .0) (a .1 .1 .0 .0))
 unfolding tables-open
 is-subtask-only-while-live =
-    wrong-at tt (family (first ∷ ended 1 ∷ []), (task 1, (task 2, tt))) refl tt not refl refl
+    wrong-at tt (tasks (first ∷ ended 1 ∷ []), (task 1, (task 2, tt))) refl tt not refl refl
 
 -- mother and daughter are exchanged: task 1 is a subtask of 2
 pub is-subtask-the-mother :
@@ -202,18 +175,18 @@ pub is-subtask-the-mother :
     (λ k a. directSubtask (a .0 .places) (a .1 .1 .0 .0) (a .1 .0 .0))
 unfolding tables-open
 is-subtask-the-mother =
-    wrong-at tt (family (first ∷ ready 1 ∷ []), (task 2, (task 1, tt))) refl tt (λ b. b) refl refl
+    wrong-at tt (tasks (first ∷ ready 1 ∷ []), (task 2, (task 1, tt))) refl tt (λ b. b) refl refl
 
 -- only live ones count: that of task 1 has ended and is not detached
 pub has-subtasks-only-live :
     RuledOut (λ k. fits-TaskTable ⊗ fits-TaskNumber ⊗ fits-end) has-subtasks.Pre has-subtasks.Post
     (λ k a. some (λ (x : Task). isLive (x .condition) && eqb (x .mother .0) (a .1 .0 .0)) (a .0 .places))
 unfolding tables-open
-has-subtasks-only-live = wrong-at tt (family (first ∷ ended 1 ∷ []), (task 1, tt)) refl tt not refl refl
+has-subtasks-only-live = wrong-at tt (tasks (first ∷ ended 1 ∷ []), (task 1, tt)) refl tt not refl refl
 
 -- the last place is not looked at: the only daughter of task 1 is 32
 abbrev lastIn : Task → TaskTable
-lastIn x = taskTableOf (set (family (first ∷ []) .places) (highestTask - 1) x)
+lastIn x = taskTableOf (set (tasks (first ∷ []) .places) (highestTask - 1) x)
 
 pub has-subtasks-but-the-last-place :
     RuledOut (λ k. fits-TaskTable ⊗ fits-TaskNumber ⊗ fits-end) has-subtasks.Pre has-subtasks.Post

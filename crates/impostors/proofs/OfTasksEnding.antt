@@ -8,7 +8,7 @@ use Rattle.lists.specs.Pick.{pick}
 use Rattle.lists.specs.Lists.{mapAt}
 use Rattle.kinds.specs.Tasks.{noTask, isFree, isLive}
 use Rattle.kinds.specs.declared.tasks.Task.{Task}
-use Rattle.rules.specs.Family.{conditionOf, live, directSubtask, below}
+use Rattle.rules.specs.Family.{withPlace, conditionOf, live, directSubtask, below}
 use Rattle.rules.specs.Ending.{endTasks}
 use Rattle.tasks.specs.TaskTables.{taskTableOf}
 use Rattle.tasks.specs.declared.TaskTable.{TaskTable}
@@ -17,15 +17,15 @@ use Rattle.impostors.specs.Fitting.{_⊗_, fits-TaskTable, fits-Task, fi
 use Rattle.impostors.specs.Opened.{tables-open}
 use Rattle.impostors.specs.Wrong.{RuledOut, wrong-at}
 use Rattle.impostors.specs.Samples.{task}
-use Rattle.impostors.specs.Parts.{family, first, ready, ended}
+use Rattle.impostors.specs.Parts.{tasks, first, ready, ended}
 
 -- 2 is task 1's daughter, 3 is 2's, 4 is 3's
 abbrev four : TaskTable
-four = family (first ∷ ready 1 ∷ ready 2 ∷ ready 3 ∷ [])
+four = tasks (first ∷ ready 1 ∷ ready 2 ∷ ready 3 ∷ [])
 
 -- 2 is task 1's daughter, 3 is 2's and has ended, and is not detached
 abbrev oneEnded : TaskTable
-oneEnded = family (first ∷ ready 1 ∷ ended 2 ∷ [])
+oneEnded = tasks (first ∷ ready 1 ∷ ended 2 ∷ [])
 
 -- only the daughters of the task that ends go with it: 2 ends, and 4 stays
 abbrev onlyDaughters : List Task → ℕ → Task → List Task
@@ -37,6 +37,14 @@ pub end-tasks-only-daughters :
     (λ k a. taskTableOf (onlyDaughters (a .0 .places) (a .1 .0 .0) (a .1 .1 .0)))
 unfolding tables-open
 end-tasks-only-daughters = wrong-at tt (four, (task 2, (noTask, tt))) refl tt (λ f. live (f .places) 4) refl refl
+
+-- a number that no task has ends as well: 5, whose place is free, is left as ended
+pub end-tasks-of-nobody :
+    RuledOut (λ k. fits-TaskTable ⊗ fits-TaskNumber ⊗ fits-Task ⊗ fits-end) end-tasks.Pre end-tasks.Post
+    (λ k a. taskTableOf (withPlace (endTasks (a .0 .places) (a .1 .0 .0) (a .1 .1 .0)) (a .1 .0 .0) (a .1 .1 .0)))
+unfolding tables-open
+end-tasks-of-nobody =
+    wrong-at tt (four, (task 5, (ended 1, tt))) refl tt (λ f. not (isFree (conditionOf (f .places) 5))) refl refl
 
 -- only live tasks go: 2 ends, and the place of 3, which has ended before, is not free
 abbrev onlyLive : List Task → ℕ → Task → List Task

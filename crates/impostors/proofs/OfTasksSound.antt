@@ -2,10 +2,10 @@
 use Prim.Native.Nat.{ℕ, _+_, _-_}
 use mathlib.Core.Path.{refl}
 use mathlib.Core.Bool.{Bool, true, not, _&&_, _||_}
-use mathlib.Core.List.{List, [], _∷_, _++_}
+use mathlib.Core.List.{List, [], _∷_, _++_, map}
 use lib.Dec.{eqb, leb, ltb}
 use lib.ListN.{length, take, replicate}
-use Rattle.lists.specs.Lists.{every, everyAt, howMany}
+use Rattle.lists.specs.Lists.{every, everyAt, howMany, numbers}
 use Rattle.kinds.specs.Limits.{jobStepTask, highestTask, highestEcb}
 use Rattle.kinds.specs.Ranges.{priorityGood}
 use Rattle.kinds.specs.Tasks.{noTask, isFree, isLive}
@@ -15,7 +15,7 @@ use Rattle.kinds.specs.declared.tasks.MaybeEcb.{MaybeEcb}
 use Rattle.kinds.specs.declared.tasks.MaybeEcb.the-variants.{NoEcb, Named}
 use Rattle.kinds.specs.declared.tasks.Task.{Task}
 use Rattle.rules.specs.Attach.{maybeGood}
-use Rattle.rules.specs.Family.{place, live, used, mother, below}
+use Rattle.rules.specs.Family.{place, live, used, mother, below, chain}
 use Rattle.rules.specs.SoundTasks.{hasEcb, motherGood, prioritiesGood, taskEcbsGood, endedTasksGood}
 use Rattle.rules.specs.SoundTasks.{zeroTask, freePlacesGood}
 use Rattle.rules.specs.Table.{rowOf, ecb}
@@ -34,7 +34,7 @@ use Rattle.tasks.proofs.sound.all_zero.Reads as all-zero
 use Rattle.impostors.specs.Fitting.{_⊗_, fits-TaskTable, fits-MaybeEcb, fits-end}
 use Rattle.impostors.specs.Opened.{tables-open}
 use Rattle.impostors.specs.Wrong.{told-apart, RuledOut, wrong-at}
-use Rattle.impostors.specs.Parts.{family, under, first}
+use Rattle.impostors.specs.Parts.{tasks, under, first, ready}
 
 -- a place with these priorities
 abbrev ranked : Condition → ℕ → ℕ → Task
@@ -71,7 +71,7 @@ ecb-good-one-above-passes = wrong-at tt (ecb 64, tt) refl tt (λ b. b) refl refl
 pub tasks-fit-32-places-refused : RuledOut (λ k. fits-TaskTable ⊗ fits-end) tasks-fit.Pre tasks-fit.Post
     (λ k a. ltb (length (a .0 .places)) highestTask)
 unfolding tables-open
-tasks-fit-32-places-refused = wrong-at tt (family (first ∷ []), tt) refl tt not refl refl
+tasks-fit-32-places-refused = wrong-at tt (tasks (first ∷ []), tt) refl tt not refl refl
 
 -- only tasks in use are counted: one, and not 32
 pub tasks-fit-counts-the-tasks : RuledOut (λ k. fits-TaskTable ⊗ fits-end) tasks-fit.Pre tasks-fit.Post
@@ -79,7 +79,7 @@ pub tasks-fit-counts-the-tasks : RuledOut (λ k. fits-TaskTable ⊗ fits-end) ta
 unfolding tables-open
 tasks-fit-counts-the-tasks = record {
   lifetimes = tt;
-  given = (family (first ∷ []), tt);
+  given = (tasks (first ∷ []), tt);
   fitting = refl;
   asked = tt;
   broken = λ e p. told-apart p not refl refl;
@@ -96,19 +96,19 @@ ecbless f = not (hasEcb (place (f .places) jobStepTask .ecb))
 pub job-step-good-with-ecb : RuledOut (λ k. fits-TaskTable ⊗ fits-end) job-step-good.Pre job-step-good.Post
     (λ k a. live (a .0 .places) jobStepTask && motherless (a .0))
 unfolding tables-open
-job-step-good-with-ecb = wrong-at tt (family (under 0 Ready (ecb 5) ∷ []), tt) refl tt (λ b. b) refl refl
+job-step-good-with-ecb = wrong-at tt (tasks (under 0 Ready (ecb 5) ∷ []), tt) refl tt (λ b. b) refl refl
 
 -- task 1 may have a mother: here it is its own
 pub job-step-good-with-mother : RuledOut (λ k. fits-TaskTable ⊗ fits-end) job-step-good.Pre job-step-good.Post
     (λ k a. live (a .0 .places) jobStepTask && ecbless (a .0))
 unfolding tables-open
-job-step-good-with-mother = wrong-at tt (family (under 1 Ready NoEcb ∷ []), tt) refl tt (λ b. b) refl refl
+job-step-good-with-mother = wrong-at tt (tasks (under 1 Ready NoEcb ∷ []), tt) refl tt (λ b. b) refl refl
 
 -- task 1 may have ended
 pub job-step-good-ended : RuledOut (λ k. fits-TaskTable ⊗ fits-end) job-step-good.Pre job-step-good.Post
     (λ k a. used (a .0 .places) jobStepTask && (motherless (a .0) && ecbless (a .0)))
 unfolding tables-open
-job-step-good-ended = wrong-at tt (family (under 0 Ended NoEcb ∷ []), tt) refl tt (λ b. b) refl refl
+job-step-good-ended = wrong-at tt (tasks (under 0 Ended NoEcb ∷ []), tt) refl tt (λ b. b) refl refl
 
 -- of every task in use but task 1, another rule than that on its mother
 abbrev ofOthers : (ℕ → Task → Bool) → TaskTable → Bool
@@ -119,21 +119,29 @@ pub mothers-good-ended-mother : RuledOut (λ k. fits-TaskTable ⊗ fits-end) mot
     (λ k a. ofOthers (λ n x. below (a .0 .places) jobStepTask n) (a .0))
 unfolding tables-open
 mothers-good-ended-mother =
-    wrong-at tt (family (first ∷ under 1 Ended (ecb 5) ∷ under 2 Ready NoEcb ∷ []), tt) refl tt (λ b. b) refl refl
+    wrong-at tt (tasks (first ∷ under 1 Ended (ecb 5) ∷ under 2 Ready NoEcb ∷ []), tt) refl tt (λ b. b) refl refl
 
 -- the chain is not followed: 2 and 3 are each other's mother
 pub mothers-good-chain-not-followed : RuledOut (λ k. fits-TaskTable ⊗ fits-end) mothers-good.Pre mothers-good.Post
     (λ k a. ofOthers (λ n x. live (a .0 .places) (x .mother .0)) (a .0))
 unfolding tables-open
 mothers-good-chain-not-followed =
-    wrong-at tt (family (first ∷ under 3 Ready NoEcb ∷ under 2 Ready NoEcb ∷ []), tt) refl tt (λ b. b) refl refl
+    wrong-at tt (tasks (first ∷ under 3 Ready NoEcb ∷ under 2 Ready NoEcb ∷ []), tt) refl tt (λ b. b) refl refl
+
+-- the chain is left one task too early: each of 32 tasks is the daughter of the one before
+pub mothers-good-through-31-tasks : RuledOut (λ k. fits-TaskTable ⊗ fits-end) mothers-good.Pre mothers-good.Post
+    (λ k a. ofOthers (λ n x. live (a .0 .places) (x .mother .0) && chain 31 (a .0 .places) (λ m. eqb m jobStepTask) n)
+    (a .0))
+unfolding tables-open
+mothers-good-through-31-tasks =
+    wrong-at tt (taskTableOf (map ready (numbers 0 highestTask)), tt) refl tt not refl refl
 
 -- only live tasks are looked at: 2 has ended, and its mother 3 is free
 pub mothers-good-ended-task-passes : RuledOut (λ k. fits-TaskTable ⊗ fits-end) mothers-good.Pre mothers-good.Post
     (λ k a. everyAt (λ n x. not (isLive (x .condition)) || motherGood (a .0 .places) n x) 1 (a .0 .places))
 unfolding tables-open
 mothers-good-ended-task-passes =
-    wrong-at tt (family (first ∷ under 3 Ended (ecb 5) ∷ []), tt) refl tt (λ b. b) refl refl
+    wrong-at tt (tasks (first ∷ under 3 Ended (ecb 5) ∷ []), tt) refl tt (λ b. b) refl refl
 
 -- a dispatching priority above the limit passes: 101 with a limit of 100
 pub priorities-good-dispatching-above-limit :
@@ -141,14 +149,14 @@ pub priorities-good-dispatching-above-limit :
     (λ k a. every (λ x. priorityGood (x .limit) && priorityGood (x .dispatching)) (a .0 .places))
 unfolding tables-open
 priorities-good-dispatching-above-limit =
-    wrong-at tt (family (ranked Ready 100 101 ∷ []), tt) refl tt (λ b. b) refl refl
+    wrong-at tt (tasks (ranked Ready 100 101 ∷ []), tt) refl tt (λ b. b) refl refl
 
 -- a dispatching priority has to be below the limit: 100 with a limit of 100 is refused
 pub priorities-good-dispatching-equal-refused :
     RuledOut (λ k. fits-TaskTable ⊗ fits-end) priorities-good.Pre priorities-good.Post
     (λ k a. every (λ x. isFree (x .condition) || ltb (x .dispatching) (x .limit)) (a .0 .places))
 unfolding tables-open
-priorities-good-dispatching-equal-refused = wrong-at tt (family (ranked Ready 100 100 ∷ []), tt) refl tt not refl refl
+priorities-good-dispatching-equal-refused = wrong-at tt (tasks (ranked Ready 100 100 ∷ []), tt) refl tt not refl refl
 
 -- task 32 is overlooked, with a dispatching priority above its limit
 pub priorities-good-task-32-overlooked :
@@ -161,14 +169,14 @@ priorities-good-task-32-overlooked = wrong-at tt (lastly (ranked Ready 100 101),
 pub task-ecbs-good-none-refused : RuledOut (λ k. fits-TaskTable ⊗ fits-end) task-ecbs-good.Pre task-ecbs-good.Post
     (λ k a. every (λ x. isFree (x .condition) || (hasEcb (x .ecb) && maybeGood (x .ecb))) (a .0 .places))
 unfolding tables-open
-task-ecbs-good-none-refused = wrong-at tt (family (first ∷ []), tt) refl tt not refl refl
+task-ecbs-good-none-refused = wrong-at tt (tasks (first ∷ []), tt) refl tt not refl refl
 
 -- a task passes with ECB 64
 pub task-ecbs-good-one-above-passes : RuledOut (λ k. fits-TaskTable ⊗ fits-end) task-ecbs-good.Pre task-ecbs-good.Post
     (λ k a. every (λ x. ecbTo (highestEcb + 1) (x .ecb)) (a .0 .places))
 unfolding tables-open
 task-ecbs-good-one-above-passes =
-    wrong-at tt (family (first ∷ under 1 Ready (ecb 64) ∷ []), tt) refl tt (λ b. b) refl refl
+    wrong-at tt (tasks (first ∷ under 1 Ready (ecb 64) ∷ []), tt) refl tt (λ b. b) refl refl
 
 -- task 32 is overlooked, with ECB 64
 pub task-ecbs-good-task-32-overlooked : RuledOut (λ k. fits-TaskTable ⊗ fits-end) task-ecbs-good.Pre task-ecbs-good.Post
@@ -181,14 +189,14 @@ pub ended-tasks-good-ready-refused :
     RuledOut (λ k. fits-TaskTable ⊗ fits-end) ended-tasks-good.Pre ended-tasks-good.Post
     (λ k a. every (λ x. isFree (x .condition) || hasEcb (x .ecb)) (a .0 .places))
 unfolding tables-open
-ended-tasks-good-ready-refused = wrong-at tt (family (first ∷ []), tt) refl tt not refl refl
+ended-tasks-good-ready-refused = wrong-at tt (tasks (first ∷ []), tt) refl tt not refl refl
 
 -- an ended task is to have no ECB any more: task 2, which has ended and has ECB 5, fails
 pub ended-tasks-good-with-ecb-refused :
     RuledOut (λ k. fits-TaskTable ⊗ fits-end) ended-tasks-good.Pre ended-tasks-good.Post
     (λ k a. every (λ x. (isFree (x .condition) || isLive (x .condition)) || not (hasEcb (x .ecb))) (a .0 .places))
 unfolding tables-open
-ended-tasks-good-with-ecb-refused = wrong-at tt (family (first ∷ under 1 Ended (ecb 5) ∷ []), tt) refl tt not refl refl
+ended-tasks-good-with-ecb-refused = wrong-at tt (tasks (first ∷ under 1 Ended (ecb 5) ∷ []), tt) refl tt not refl refl
 
 -- task 32 is overlooked, which has ended and has no ECB
 pub ended-tasks-good-task-32-overlooked :
@@ -205,14 +213,14 @@ zeroNumbers x = eqb (x .mother .0) 0 && (eqb (x .limit) 0 && eqb (x .dispatching
 pub free-places-good-with-ecb : RuledOut (λ k. fits-TaskTable ⊗ fits-end) free-places-good.Pre free-places-good.Post
     (λ k a. every (λ x. not (isFree (x .condition)) || zeroNumbers x) (a .0 .places))
 unfolding tables-open
-free-places-good-with-ecb = wrong-at tt (family (first ∷ freeWithEcb ∷ []), tt) refl tt (λ b. b) refl refl
+free-places-good-with-ecb = wrong-at tt (tasks (first ∷ freeWithEcb ∷ []), tt) refl tt (λ b. b) refl refl
 
 -- places in use have to be zero as well: that of task 1 fails
 pub free-places-good-in-use-refused :
     RuledOut (λ k. fits-TaskTable ⊗ fits-end) free-places-good.Pre free-places-good.Post
     (λ k a. every zeroTask (a .0 .places))
 unfolding tables-open
-free-places-good-in-use-refused = wrong-at tt (family (first ∷ []), tt) refl tt not refl refl
+free-places-good-in-use-refused = wrong-at tt (tasks (first ∷ []), tt) refl tt not refl refl
 
 -- place 32 is overlooked, which is free and has an ECB
 pub free-places-good-place-32-overlooked :
@@ -225,13 +233,13 @@ free-places-good-place-32-overlooked = wrong-at tt (lastly freeWithEcb, tt) refl
 pub all-zero-in-use-passes : RuledOut (λ k. fits-TaskTable ⊗ fits-end) all-zero.Pre all-zero.Post
     (λ k a. freePlacesGood (a .0 .places))
 unfolding tables-open
-all-zero-in-use-passes = wrong-at tt (family (first ∷ []), tt) refl tt (λ b. b) refl refl
+all-zero-in-use-passes = wrong-at tt (tasks (first ∷ []), tt) refl tt (λ b. b) refl refl
 
 -- a free place passes whatever stands in it: a limit of 1
 pub all-zero-free-with-a-limit : RuledOut (λ k. fits-TaskTable ⊗ fits-end) all-zero.Pre all-zero.Post
     (λ k a. every (λ x. isFree (x .condition)) (a .0 .places))
 unfolding tables-open
-all-zero-free-with-a-limit = wrong-at tt (family (ranked Free 1 0 ∷ []), tt) refl tt (λ b. b) refl refl
+all-zero-free-with-a-limit = wrong-at tt (tasks (ranked Free 1 0 ∷ []), tt) refl tt (λ b. b) refl refl
 
 -- place 32 is overlooked, which is free and has an ECB
 pub all-zero-place-32-overlooked : RuledOut (λ k. fits-TaskTable ⊗ fits-end) all-zero.Pre all-zero.Post

@@ -60,8 +60,8 @@ abbrev pub ownerAndWaiter : List Entry
 ownerAndWaiter = entryFor 1 (exc x) ∷ entryFor 2 (exc x) ∷ []
 
 -- TASKS 1, 2 and so on, the other places free
-abbrev pub family : List Task → TaskTable
-family l = taskTableOf (padded highestTask noTask l)
+abbrev pub tasks : List Task → TaskTable
+tasks l = taskTableOf (padded highestTask noTask l)
 
 -- a task 200/150 of this mother, in this condition and with this ECB
 abbrev pub under : ℕ → Condition → MaybeEcb → Task

@@ -39,7 +39,7 @@ highestLength = 300
 
 -- the number of the last line that is read
 abbrev pub highestLine : ℕ
-highestLine = 18446744073709551615
+highestLine = 18446744073709551614
 
 -- the digits of a major part
 abbrev pub majorDigits : ℕ

@@ -3,7 +3,7 @@ use crate::fields;
 use crate::keys;
 use crate::number;
 use crate::plain;
-use crate::poke::Setting;
+use crate::poke::Poke;
 use crate::poke_form;
 use crate::shows::Report;
 use crate::shows::Shows;
@@ -32,7 +32,11 @@ pub(crate) enum Form {
         at: usize,
     },
     Show(Shows),
-    Set(Setting),
+    Fresh {
+        limit: u16,
+        dispatching: u16,
+    },
+    Poke(Poke),
     Major {
         place: u32,
         at: usize,
@@ -89,11 +93,7 @@ fn fresh(line: &[u8], at: usize) -> Form {
     }
     let limit = number::half(n.value);
     let dispatching = number::half(m.value);
-    alone(
-        line,
-        m.next,
-        Form::Set(Setting::Fresh { limit, dispatching }),
-    )
+    alone(line, m.next, Form::Fresh { limit, dispatching })
 }
 
 // A report: the room of its list area.

@@ -8,7 +8,7 @@ ghost use Rattle.jobs.specs.Sizes.{blockSize, longestLine};
 ghost use Rattle.jobs.specs.Spans.{Within};
 
 // The block has `end` bytes of the input. The line is from..to, and what comes after it starts at `next`. The input is
-// over where it has no line any more, or where a read failed.
+// over where it has no line any more, or where a read failed: the line is then empty.
 pub(crate) struct Span {
     pub(crate) over: bool,
     pub(crate) failed: bool,
@@ -147,8 +147,8 @@ fn last(end: usize) -> Span
     }
 }
 
-// No line yet, or none: what came of it before a read failed may be the front of another.
-pub(crate) fn no_line() -> Span
+// No line: what came of it before a read failed may be the front of another.
+fn no_line() -> Span
     ensures { λ r. ⌜ Within r ⌝ }
 {
     Span {
@@ -174,19 +174,19 @@ fn rest_of_long(block: &mut [u8]) -> Span
         }
         let end = got.count;
         if end == 0 {
-            return long(0, 0);
+            return passed(0, 0);
         }
         let to = line_end(block, 0, end);
         if to < end {
-            return long(to + 1, end);
+            return passed(to + 1, end);
         }
         turns -= 1;
     }
-    long(0, 0)
+    passed(0, 0)
 }
 
-// As many bytes of the block as no line has stand for a line that is too long.
-fn long(next: usize, end: usize) -> Span
+// A line that is passed over, too long or before the first: as many bytes of the block as no line has stand for it.
+pub(crate) fn passed(next: usize, end: usize) -> Span
     requires { ⌜ (next ≤ end) × (end ≤ blockSize) ⌝ }
     ensures { λ r. ⌜ Within r ⌝ }
 {

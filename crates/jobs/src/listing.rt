@@ -89,15 +89,11 @@ pub(crate) fn dump(t: Tables, out: &mut [u8; BLOCK], at: usize) -> usize
     ensures { λ r. ⌜ Kept at r ⌝ }
 {
     let a = t.all;
-    let f = a.tasks;
-    let q = a.queue;
-    let e = a.ecbs;
-    let s = a.storage;
     let k = put_step(out, at, flag(a.over), a.code as u32);
-    let k = put_tasks(f, out, k);
-    let k = put_entries(q, out, k);
-    let k = put_ecbs(e, out, k);
-    let k = put_areas(s, out, k);
+    let k = put_tasks(a.tasks, out, k);
+    let k = put_entries(a.queue, out, k);
+    let k = put_ecbs(a.ecbs, out, k);
+    let k = put_areas(a.storage, out, k);
     put(out, k, b".\n")
 }
 

@@ -1,9 +1,4 @@
-// What a line sets by itself, with no request.
-pub(crate) enum StepField {
-    Over,
-    Code,
-}
-
+// A poke: one raw field of the tables is overwritten.
 pub(crate) enum TaskField {
     State,
     Mother,
@@ -38,17 +33,10 @@ pub(crate) enum AreaField {
     Owner,
 }
 
-// A fresh start, or a poke, which overwrites one raw field. `at` is
-// the place in its table: that of task n is n - 1.
-pub(crate) enum Setting {
-    Fresh {
-        limit: u16,
-        dispatching: u16,
-    },
-    Step {
-        field: StepField,
-        value: u32,
-    },
+// The two fields of the step, or one of a place. `at` is the place in its table: that of task n is n - 1.
+pub(crate) enum Poke {
+    Over(u32),
+    Code(u32),
     Task {
         at: usize,
         field: TaskField,

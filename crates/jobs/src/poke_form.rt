@@ -6,8 +6,7 @@ use crate::number::Number;
 use crate::poke::AreaField;
 use crate::poke::EcbField;
 use crate::poke::EntryField;
-use crate::poke::Setting;
-use crate::poke::StepField;
+use crate::poke::Poke;
 use crate::poke::TaskField;
 use crate::word;
 use kinds::Area;
@@ -72,16 +71,9 @@ fn step(line: &[u8], at: usize) -> Form {
         return Form::Unreadable;
     }
     let key = word::key(line, at);
-    let value = v.value;
     match key {
-        keys::OVER => Form::Set(Setting::Step {
-            field: StepField::Over,
-            value,
-        }),
-        keys::CODE => Form::Set(Setting::Step {
-            field: StepField::Code,
-            value,
-        }),
+        keys::OVER => Form::Poke(Poke::Over(v.value)),
+        keys::CODE => Form::Poke(Poke::Code(v.value)),
         _ => Form::Unreadable,
     }
 }
@@ -108,7 +100,7 @@ fn task(n: usize, field: u64, value: u32) -> Form {
 }
 
 fn of_task(at: usize, field: TaskField, value: u32) -> Form {
-    Form::Set(Setting::Task { at, field, value })
+    Form::Poke(Poke::Task { at, field, value })
 }
 
 fn entry(at: usize, field: u64, value: u32) -> Form {
@@ -124,7 +116,7 @@ fn entry(at: usize, field: u64, value: u32) -> Form {
 }
 
 fn of_entry(at: usize, field: EntryField, value: u32) -> Form {
-    Form::Set(Setting::Entry { at, field, value })
+    Form::Poke(Poke::Entry { at, field, value })
 }
 
 fn ecb(at: usize, field: u64, value: u32) -> Form {
@@ -141,7 +133,7 @@ fn ecb(at: usize, field: u64, value: u32) -> Form {
 }
 
 fn of_ecb(at: usize, field: EcbField, value: u32) -> Form {
-    Form::Set(Setting::Ecb { at, field, value })
+    Form::Poke(Poke::Ecb { at, field, value })
 }
 
 fn area(at: usize, field: u64, value: u32) -> Form {
@@ -158,5 +150,5 @@ fn area(at: usize, field: u64, value: u32) -> Form {
 }
 
 fn of_area(at: usize, field: AreaField, value: u32) -> Form {
-    Form::Set(Setting::Area { at, field, value })
+    Form::Poke(Poke::Area { at, field, value })
 }

@@ -1,5 +1,4 @@
-// What a line sets: a fresh start, or a poke, which takes a place to raw fields, overwrites one of them, and goes back
-// where the tables can hold it.
+// Pokes carried out: a place to raw fields, one of them overwritten, and back where the tables can hold it.
 use crate::area_row::HeldArea;
 use crate::area_row::RawArea;
 use crate::ecb_row::HeldEcb;
@@ -9,8 +8,7 @@ use crate::entry_row::RawEntry;
 use crate::poke::AreaField;
 use crate::poke::EcbField;
 use crate::poke::EntryField;
-use crate::poke::Setting;
-use crate::poke::StepField;
+use crate::poke::Poke;
 use crate::poke::TaskField;
 use crate::raw::WIDEST_FLAG;
 use crate::raw::WIDEST_HALF;
@@ -34,147 +32,115 @@ pub(crate) struct Left {
     pub(crate) said: Said,
 }
 
-// Before the first `fresh` the tables are those of a step over with code 0, which a fresh start with dispatching above
-// limit gives back.
-pub(crate) fn start() -> Tables {
-    let a = Tables::fresh(0, 1);
-    a.tables
-}
-
 // A part of a name that is poked is that of the first of the names.
-pub(crate) fn set(tables: Tables, s: Setting, names: NameList) -> Left {
+pub(crate) fn poked(tables: Tables, poke: Poke, names: NameList) -> Left {
     let t = tables.all;
-    match s {
-        Setting::Fresh { limit, dispatching } => fresh(limit, dispatching),
-        Setting::Step { field, value } => poked_step(t, field, value),
-        Setting::Task { at, field, value } => poked_task(t, at, field, value),
-        Setting::Entry { at, field, value } => poked_entry(t, at, field, value, names),
-        Setting::Ecb { at, field, value } => poked_ecb(t, at, field, value),
-        Setting::Area { at, field, value } => poked_area(t, at, field, value),
+    match poke {
+        Poke::Over(value) => poked_over(t, value),
+        Poke::Code(value) => poked_code(t, value),
+        Poke::Task { at, field, value } => poked_task(t, at, field, value),
+        Poke::Entry { at, field, value } => poked_entry(t, at, field, value, names),
+        Poke::Ecb { at, field, value } => poked_ecb(t, at, field, value),
+        Poke::Area { at, field, value } => poked_area(t, at, field, value),
     }
 }
 
-fn fresh(limit: u16, dispatching: u16) -> Left {
-    let a = Tables::fresh(limit, dispatching);
-    let tables = a.tables;
-    let reply = a.reply;
-    Left {
-        tables,
-        said: Said::Answer(reply),
-    }
-}
-
-fn now_held(t: AllTables) -> Left {
+fn leaving(t: AllTables, said: Said) -> Left {
     Left {
         tables: Tables { all: t },
-        said: Said::Ok,
+        said,
     }
 }
 
-fn not_held(t: AllTables) -> Left {
-    Left {
-        tables: Tables { all: t },
-        said: Said::NotHeld,
-    }
-}
-
-fn poked_step(t: AllTables, field: StepField, value: u32) -> Left {
+fn poked_over(t: AllTables, value: u32) -> Left {
     let mut r = t;
-    match field {
-        StepField::Over => {
-            if WIDEST_FLAG < value {
-                return not_held(t);
-            }
-            r.over = value != 0;
-        }
-        StepField::Code => {
-            if WIDEST_HALF < value {
-                return not_held(t);
-            }
-            r.code = value as u16;
-        }
+    let mut said = Said::NotHeld;
+    if value <= WIDEST_FLAG {
+        r.over = value != 0;
+        said = Said::Ok;
     }
-    now_held(r)
+    leaving(r, said)
+}
+
+fn poked_code(t: AllTables, value: u32) -> Left {
+    let mut r = t;
+    let mut said = Said::NotHeld;
+    if value <= WIDEST_HALF {
+        r.code = value as u16;
+        said = Said::Ok;
+    }
+    leaving(r, said)
 }
 
 fn poked_task(t: AllTables, at: usize, field: TaskField, value: u32) -> Left {
-    if TaskNumber::PLACES <= at {
-        return not_held(t);
-    }
     let mut f = t.tasks;
-    let x = RawTask::of(f.places[at]).with(field, value);
-    let HeldTask::Held(y) = x.held() else {
-        return not_held(t);
-    };
-    f.places[at] = y;
-    let mut r = t;
-    r.tasks = f;
-    now_held(r)
+    let mut said = Said::NotHeld;
+    if at < TaskNumber::PLACES {
+        let x = RawTask::of(f.places[at]).with(field, value);
+        if let HeldTask::Held(y) = x.held() {
+            f.places[at] = y;
+            said = Said::Ok;
+        }
+    }
+    leaving(tables::put_tasks(t, f), said)
 }
 
 fn poked_entry(t: AllTables, at: usize, field: EntryField, value: u32, names: NameList) -> Left {
-    if Slot::PLACES <= at {
-        return not_held(t);
-    }
     let w = names.names[0];
     let given = w.name;
     let mut q = t.queue;
-    let x = RawEntry::of(q.slots[at]).with(field, value, given);
-    let HeldEntry::Held {
-        task,
-        exclusive,
-        length,
-    } = x.held()
-    else {
-        return not_held(t);
-    };
-    let major = x.major;
-    let minor = x.minor;
-    let name = Name {
-        major,
-        minor,
-        length,
-    };
-    q.slots[at] = Slot {
-        task,
-        exclusive,
-        name,
-    };
-    q.count = used_slots(q);
-    let mut r = t;
-    r.queue = q;
-    now_held(r)
+    let mut said = Said::NotHeld;
+    if at < Slot::PLACES {
+        let x = RawEntry::of(q.slots[at]).with(field, value, given);
+        if let HeldEntry::Held {
+            task,
+            exclusive,
+            length,
+        } = x.held() {
+            let major = x.major;
+            let minor = x.minor;
+            let name = Name {
+                major,
+                minor,
+                length,
+            };
+            q.slots[at] = Slot {
+                task,
+                exclusive,
+                name,
+            };
+            q.count = used_slots(q);
+            said = Said::Ok;
+        }
+    }
+    leaving(tables::put_queue(t, q), said)
 }
 
 fn poked_ecb(t: AllTables, at: usize, field: EcbField, value: u32) -> Left {
-    if EcbNumber::PLACES <= at {
-        return not_held(t);
-    }
     let mut e = t.ecbs;
-    let x = RawEcb::of(e.ecbs[at]).with(field, value);
-    let HeldEcb::Held(y) = x.held() else {
-        return not_held(t);
-    };
-    e.ecbs[at] = y;
-    let mut r = t;
-    r.ecbs = e;
-    now_held(r)
+    let mut said = Said::NotHeld;
+    if at < EcbNumber::PLACES {
+        let x = RawEcb::of(e.ecbs[at]).with(field, value);
+        if let HeldEcb::Held(y) = x.held() {
+            e.ecbs[at] = y;
+            said = Said::Ok;
+        }
+    }
+    leaving(tables::put_ecbs(t, e), said)
 }
 
 fn poked_area(t: AllTables, at: usize, field: AreaField, value: u32) -> Left {
-    if Area::PLACES <= at {
-        return not_held(t);
-    }
     let mut s = t.storage;
-    let x = RawArea::of(s.areas[at]).with(field, value);
-    let HeldArea::Held(y) = x.held() else {
-        return not_held(t);
-    };
-    s.areas[at] = y;
-    s.count = used_areas(s);
-    let mut r = t;
-    r.storage = s;
-    now_held(r)
+    let mut said = Said::NotHeld;
+    if at < Area::PLACES {
+        let x = RawArea::of(s.areas[at]).with(field, value);
+        if let HeldArea::Held(y) = x.held() {
+            s.areas[at] = y;
+            s.count = used_areas(s);
+            said = Said::Ok;
+        }
+    }
+    leaving(tables::put_storage(t, s), said)
 }
 
 // One more than the highest place with a field not zero.

@@ -56,10 +56,9 @@ pub(crate) fn stuck(t: Tables, room: u8, out: &mut [u8; BLOCK], at: usize) -> us
     let mut list = [UNWRITTEN; STUCK_LIST];
     let a = t.stuck(&mut list[..length]);
     let all = t.all;
-    let q = all.queue;
     let reply = a.reply;
     let k = listing::answer(reply, out, at);
-    put_stuck(q, list, number::byte(reply.besides()), out, k)
+    put_stuck(all.queue, list, number::byte(reply.besides()), out, k)
 }
 
 fn put_stuck(q: Queue, list: [u8; STUCK_LIST], count: u8, out: &mut [u8; BLOCK], at: usize) -> usize
@@ -106,12 +105,12 @@ pub(crate) fn queues(t: Tables, room: u8, out: &mut [u8; BLOCK], at: usize) -> u
     let mut list = [UNWRITTEN; QUEUES_LIST];
     let a = t.queues(&mut list[..length]);
     let all = t.all;
-    let q = all.queue;
     let reply = a.reply;
     let k = listing::answer(reply, out, at);
-    put_queues(q, list, number::byte(reply.besides()), out, k)
+    put_queues(all.queue, list, number::byte(reply.besides()), out, k)
 }
 
+// The entry of an item is read here, so that the queue is not copied for each of them.
 fn put_queues(
     q: Queue,
     list: [u8; QUEUES_LIST],
@@ -125,20 +124,19 @@ fn put_queues(
     let mut i: usize = 0;
     while i < count as usize {
         let item = QUEUE_ITEM * i;
-        k = put_queue_item(q, list[item], list[item + 1], out, k);
+        let place = list[item] as usize;
+        if place < Slot::PLACES {
+            k = put_queue_item(q.slots[place], list[item + 1], out, k);
+        }
         i += 1;
     }
     k
 }
 
 // `queue NAME TASK own`, or `wait`.
-fn put_queue_item(q: Queue, place: u8, owner: u8, out: &mut [u8; BLOCK], at: usize) -> usize
+fn put_queue_item(x: Slot, owner: u8, out: &mut [u8; BLOCK], at: usize) -> usize
     ensures { λ r. ⌜ Kept at r ⌝ }
 {
-    if Slot::PLACES <= place as usize {
-        return at;
-    }
-    let x = q.slots[place as usize];
     let name = x.name;
     let k = put(out, at, b"queue");
     let k = put_name(name, out, k);

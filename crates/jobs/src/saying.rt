@@ -1,8 +1,6 @@
 // What is written for a line.
-use crate::listing;
 use crate::sizes::BLOCK;
 use crate::text;
-use kinds::Reply;
 ghost use Rattle.jobs.specs.Places.{Kept};
 
 pub(crate) enum Said {
@@ -10,7 +8,6 @@ pub(crate) enum Said {
     Unreadable,
     NotHeld,
     Ok,
-    Answer(Reply),
 }
 
 // For line `number` of the script, behind what is in the block.
@@ -22,7 +19,6 @@ pub(crate) fn say(said: Said, number: u64, out: &mut [u8; BLOCK], at: usize) -> 
         Said::Unreadable => mark(b"? ", number, out, at),
         Said::NotHeld => mark(b"! ", number, out, at),
         Said::Ok => text::put(out, at, b"ok\n"),
-        Said::Answer(reply) => listing::answer(reply, out, at),
     }
 }
 

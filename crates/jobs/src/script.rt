@@ -10,45 +10,53 @@ use crate::sizes::MOST_CODES;
 use crate::text;
 use crate::turn;
 use crate::turn::What;
+use services::Tables;
+
+// Before the first `fresh` the tables are those of a step over with code 0, which a fresh start with dispatching above
+// limit gives back.
+fn start() -> Tables {
+    let a = Tables::fresh(0, 1);
+    a.tables
+}
 
 // Answers whether the end of the input was seen and every answer written. That is for the system to say, so nothing is
 // promised of it.
 pub fn run() -> bool {
     let mut block = [0u8; BLOCK];
     let mut out = [0u8; BLOCK];
-    let mut tables = poking::start();
-    let mut s = input::no_line();
+    let mut tables = start();
+    let mut s = input::passed(0, 0);
     let mut at: usize = 0;
-    let mut number: u64 = 0;
-    while number < HIGHEST_LINE && at <= BLOCK {
+    let mut number: u64 = 1;
+    while number <= HIGHEST_LINE && at <= BLOCK && !s.over {
         s = input::line(&mut block, s.next, s.end);
-        if s.over {
-            break;
-        }
-        number += 1;
         let asked = turn::read(&block, s.from, s.to);
-        let names = asked.names;
         let what = asked.what;
         match what {
             What::Say(said) => at = saying::say(said, number, &mut out, at),
             What::Request(request) => {
-                let ecbs = asked.ecbs;
                 let length = asked.length;
                 let mut codes = [UNWRITTEN; MOST_CODES];
-                let a = tables.serve(request, names, ecbs, &mut codes[..length]);
+                let a = tables.serve(request, asked.names, asked.ecbs, &mut codes[..length]);
+                tables = a.tables;
                 let reply = a.reply;
                 at = listing::answer_with(reply, codes, length, &mut out, at);
-                tables = a.tables;
             }
-            What::Set(setting) => {
-                let r = poking::set(tables, setting, names);
+            What::Fresh { limit, dispatching } => {
+                let a = Tables::fresh(limit, dispatching);
+                tables = a.tables;
+                let reply = a.reply;
+                at = listing::answer(reply, &mut out, at);
+            }
+            What::Poke(poke) => {
+                let r = poking::poked(tables, poke, asked.names);
                 tables = r.tables;
                 let said = r.said;
                 at = saying::say(said, number, &mut out, at);
             }
             What::Show(shows) => at = shows.put(tables, &mut out, at),
         }
+        number += 1;
     }
-    let left = text::flush(&mut out, at);
-    s.over & !s.failed & (left == 0)
+    s.over & !s.failed & (text::flush(&mut out, at) == 0)
 }

@@ -29,7 +29,7 @@ pub(crate) const HIGHEST_NUMBER: u64 = u32::MAX as u64;
 pub(crate) const HIGHEST_LENGTH: u32 = 300;
 
 // The number of the last line that is read.
-pub(crate) const HIGHEST_LINE: u64 = u64::MAX;
+pub(crate) const HIGHEST_LINE: u64 = u64::MAX - 1;
 
 // The digits of a major part, of a whole minor part, and of a minor part that is given.
 pub(crate) const MAJOR_DIGITS: usize = 2 * Name::MAJOR;

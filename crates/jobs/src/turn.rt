@@ -6,7 +6,7 @@ use crate::form::Form;
 use crate::name;
 use crate::name::Named;
 use crate::poke::EntryField;
-use crate::poke::Setting;
+use crate::poke::Poke;
 use crate::saying::Said;
 use crate::shows::Shows;
 use crate::sizes::MOST_CODES;
@@ -18,11 +18,13 @@ ghost use Prim.Native.Nat.{_≤_};
 ghost use lib.ListN.{length};
 ghost use Rattle.jobs.specs.Sizes.{mostCodes};
 
-// Where nothing is asked of the tables there is only something to say.
+// Where nothing is asked of the tables there is only something to say. A fresh start takes none of them: it stands
+// apart from a poke, which would else copy them once more.
 pub(crate) enum What {
     Say(Said),
     Request(Request),
-    Set(Setting),
+    Fresh { limit: u16, dispatching: u16 },
+    Poke(Poke),
     Show(Shows),
 }
 
@@ -58,7 +60,8 @@ fn of_line(line: &[u8]) -> Asked
         } => with_names(line, at, marks, request, codes),
         Form::Ecbs { request, at } => with_ecbs(line, at, request),
         Form::Show(shows) => alone(What::Show(shows)),
-        Form::Set(setting) => alone(What::Set(setting)),
+        Form::Fresh { limit, dispatching } => alone(What::Fresh { limit, dispatching }),
+        Form::Poke(poke) => alone(What::Poke(poke)),
         Form::Major { place, at } => part(place, EntryField::Major, name::major_word(line, at)),
         Form::Minor { place, at } => part(place, EntryField::Minor, name::minor_word(line, at)),
     }
@@ -130,13 +133,13 @@ fn part(place: u32, field: EntryField, n: Named) -> Asked
         return unreadable();
     }
     let name = n.name;
-    let setting = Setting::Entry {
+    let poke = Poke::Entry {
         at: place as usize,
         field,
         value: 0,
     };
     Asked {
-        what: What::Set(setting),
+        what: What::Poke(poke),
         names: beside::one_name(name),
         ecbs: beside::no_ecbs(),
         length: 0,

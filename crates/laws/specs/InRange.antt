@@ -4,16 +4,14 @@ use mathlib.Core.Path.{_≡_}
 use mathlib.Core.Bool.{true, not, _&&_}
 use lib.IntN.{ℤ}
 use Rattle.lists.specs.Bools.{both}
-use Rattle.kinds.specs.Ranges.{priorityGood, dpmodGood, taskGood, endCodeGood, ecbGood, postCodeGood, addressGood}
+use Rattle.kinds.specs.Ranges.{priorityGood, dpmodGood, endCodeGood, ecbGood, postCodeGood, addressGood}
 use Rattle.kinds.specs.Ranges.{lengthGood, subpoolGood}
-use Rattle.kinds.specs.declared.numbers.TaskNumber.{TaskNumber}
 use Rattle.kinds.specs.declared.numbers.EcbNumber.{EcbNumber}
 use Rattle.kinds.specs.declared.numbers.Address.{Address}
 use Rattle.kinds.specs.declared.tasks.MaybeEcb.{MaybeEcb}
 use Rattle.kinds.specs.declared.requests.Ret.{Ret}
 use Rattle.rules.specs.Names.{Names, namesGood}
 use Rattle.rules.specs.Attach.{maybeGood, attachGood}
-use Rattle.rules.specs.Detach.{detachGood}
 use Rattle.rules.specs.End.{endGood}
 use Rattle.rules.specs.Enq.{asksShared, enqGood}
 use Rattle.rules.specs.Post.{postGood}
@@ -24,10 +22,6 @@ use Rattle.rules.specs.Freemain.{freemainGood}
 pub attach-ecb : (lpmod : ℕ) (dpmod : ℤ) (ecb : MaybeEcb) → attachGood lpmod dpmod ecb ≡ true → maybeGood ecb ≡ true
 unfolding attachGood
 attach-ecb lpmod dpmod ecb h = both (priorityGood lpmod && dpmodGood dpmod) (maybeGood ecb) h .1
-
-pub detach-task : (task : TaskNumber) → detachGood task ≡ true → taskGood (task .0) ≡ true
-unfolding detachGood
-detach-task task h = h
 
 pub end-code : (code : ℕ) → endGood code ≡ true → endCodeGood code ≡ true
 unfolding endGood

@@ -10,7 +10,7 @@ use borrow.Author.Tests.{ltb-false}
 use Rattle.lists.specs.Lists.{keep, every, none, distinct}
 use Rattle.lists.specs.Every.{every-gives, every-of, none-every}
 use Rattle.lists.specs.Pick.{pick}
-use Rattle.lists.specs.Keeping.{keep-same, keep-among, keep-all, keep-none, every-keep, length-keep}
+use Rattle.lists.specs.Keeping.{keep-same, keep-all, keep-none, every-keep}
 use Rattle.lists.specs.Keeping.{distinct-keep}
 use Rattle.lists.specs.Once.{distinct-map}
 use Rattle.kinds.specs.Limits.{mostEntries}
@@ -61,9 +61,6 @@ module _ (ret : Ret) (q : List Entry) (c : ℕ) (l : Names) where
       named : (k : List Ask) → distinct sameName (map nameOf k) ≡ distinct alike k
       named k = distinct-map nameOf alike sameName (λ a b. refl) k
 
-  pub to-queue-length : length (toQueue ret q c l) ≤ length (l .asks)
-  to-queue-length = rw (to-queue-keeps ret q c l) (length-keep (comes ret q c l) (l .asks))
-
 -- THE CALLER HAS NO ENTRY FOR THEM
 
 -- what a code that is 0 says
@@ -99,22 +96,11 @@ module _ (q : List Entry) (c : ℕ) where
   to-queue-fresh Have l d = all-kept (fresh q c) (l .asks)
   to-queue-fresh Chng l d = refl
 
-  -- THEIR CODES ARE 0, and no other's: under NONE and HAVE, and under USE where it queues
+  -- THEIR CODES ARE 0, and no other's, under HAVE
 
   -- the asks with code 0
   abbrev pub zeroCoded : Ret → Names → List Ask
   zeroCoded ret l = keep (λ (a : Ask). eqb 0 (enqCode ret q c a)) (l .asks)
-
-  pub none-zero : (l : Names) → toQueue None q c l ≡ zeroCoded None l
-  unfolding toQueue enqCode
-  none-zero l = sym (keep-all (l .asks))
-
-  pub use-zero : (l : Names) → allZero (enqCodes Use q c l) ≡ true → toQueue Use q c l ≡ zeroCoded Use l
-  unfolding toQueue pick
-  use-zero l h =
-      let zero : (Ask → Bool) = λ a. eqb 0 (enqCode Use q c a) in
-      rw h (sym (keep-among zero zero (λ (a : Ask). true) (λ a e. e) (l .asks)
-      (sym (every-of (enqCode Use q c) (eqb 0) (l .asks)) ∙ h) ∙ keep-all (l .asks)))
 
   pub have-zero : (l : Names) → toQueue Have q c l ≡ zeroCoded Have l
   unfolding toQueue enqCode

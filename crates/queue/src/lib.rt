@@ -22,8 +22,7 @@ ghost use Rattle.rules.specs.Names.{lawful};
 ghost use Rattle.rules.specs.Rings.{bars as barsOf};
 ghost use Rattle.rules.specs.SoundQueue.{sameRequest, entriesOnce, entryNamesGood, queueFits};
 ghost use Rattle.names.specs.Named.{resourceOf};
-ghost use Rattle.queue.specs.Queues.{entryOf, storedEntries, entriesIn, isFine, isZero, allFine, restZero};
-ghost use Rattle.queue.specs.Queues.{packedEntries};
+ghost use Rattle.queue.specs.Queues.{entryOf, storedEntries, entriesIn, isFine, isZero, packedEntries};
 ghost use Rattle.queue.specs.Marking.{marksAmong};
 
 pub struct Queue {
@@ -115,11 +114,15 @@ fn is_zero(s: Slot) -> bool
     x & y
 }
 
-fn all_fine(q: Queue) -> bool
-    requires { ⌜ q .count ≤ mostEntries ⌝ }
-    ensures { λ r. ⌜ r ≡ allFine q ⌝ }
+// The queue keeps a list of entries, and nothing else stands in it: what is used is fine, the rest is zero. Both loops
+// stand in one function, so that the queue is copied once for them.
+pub fn packed(q: Queue) -> bool
+    ensures { λ r. ⌜ r ≡ packedEntries q ⌝ }
 {
     let n = q.count;
+    if Slot::PLACES < n {
+        return false;
+    }
     let mut i = 0;
     while i < n {
         let x = q.slots[i];
@@ -128,14 +131,6 @@ fn all_fine(q: Queue) -> bool
         }
         i += 1;
     }
-    true
-}
-
-fn rest_zero(q: Queue) -> bool
-    requires { ⌜ q .count ≤ mostEntries ⌝ }
-    ensures { λ r. ⌜ r ≡ restZero q ⌝ }
-{
-    let mut i = q.count;
     while i < Slot::PLACES {
         let x = q.slots[i];
         if !is_zero(x) {
@@ -144,18 +139,6 @@ fn rest_zero(q: Queue) -> bool
         i += 1;
     }
     true
-}
-
-// The queue keeps a list of entries, and nothing else stands in it.
-pub fn packed(q: Queue) -> bool
-    ensures { λ r. ⌜ r ≡ packedEntries q ⌝ }
-{
-    if Slot::PLACES < q.count {
-        return false;
-    }
-    let f = all_fine(q);
-    let z = rest_zero(q);
-    f & z
 }
 
 // The array bounds the list, whatever the count.

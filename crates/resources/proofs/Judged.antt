@@ -95,10 +95,11 @@ module _ (ts us : List Check) (looks : Looks) where
       ∙ ap (λ (u : Verdict). foundBy u (firstOf us) looks) (sym h ∙ e) ∙ found-is
 
   -- where they all go on, the looks were made
-  pub looks-found : (r : Found) → r ≡ found → r .verdict ≡ Go → r .looks ≡ looks
-  looks-found r e h =
-      ap (λ (x : Found). x .looks) e
-      ∙ one (firstOf ts) (sym (split ts us) ∙ sym (ap (λ (x : Found). x .verdict) e) ∙ h)
+  pub found-went : (r : Found) (b : Bool) → r ≡ found → b ≡ isGo (r .verdict) → not b ≡ false
+      → (firstOf (ts ++ us) ≡ Go) × (r .looks ≡ looks)
+  found-went r b e g h =
+      let v = sym (ap (λ (x : Found). x .verdict) e) ∙ go-is (r .verdict) b g h in
+      (v, ap (λ (x : Found). x .looks) e ∙ one (firstOf ts) (sym (split ts us) ∙ v))
     where
       one : (u : Verdict) → onGo u (firstOf us) u ≡ Go → onGo u looks noLooks ≡ looks
       one Go k = refl

@@ -11,9 +11,7 @@ use Rattle.resources.proofs.codes.write.Reads as write
 use Rattle.resources.proofs.looks.enq_looks.Reads as enq-looks
 use Rattle.resources.proofs.looks.deq_looks.Reads as deq-looks
 use Rattle.resources.proofs.enq.enq_found.Reads as enq-found
-use Rattle.resources.proofs.enq.enq_on_queue.Reads as enq-on-queue
 use Rattle.resources.proofs.deq.deq_found.Reads as deq-found
-use Rattle.resources.proofs.deq.deq_on_queue.Reads as deq-on-queue
 
 pub enq-codes-due-once : Once enq-codes-due.Post
 enq-codes-due-once k a x y e d p q = p ∙ sym q
@@ -35,12 +33,6 @@ enq-found-once k a x y e d p q = p ∙ sym q
 
 pub deq-found-once : Once deq-found.Post
 deq-found-once k a x y e d p q = p ∙ sym q
-
-pub enq-on-queue-once : OnceWith enq-on-queue.Post (λ k e. now (e .1 .1 .1 .1 .1 .0))
-enq-on-queue-once k a x y e d p q = (p .0 ∙ sym (q .0), p .1 ∙ sym (q .1))
-
-pub deq-on-queue-once : OnceWith deq-on-queue.Post (λ k e. now (e .1 .1 .1 .1 .1 .0))
-deq-on-queue-once k a x y e d p q = (p .0 ∙ sym (q .0), p .1 ∙ sym (q .1))
 
 pub enq-served-once : OnceWith enq-served.Post (λ k e. now (e .1 .1 .1 .1 .0))
 enq-served-once k a x y e d p q = (made-once x y (p .0 ∙ sym (q .0)), p .1 ∙ sym (q .1))

@@ -1,11 +1,9 @@
 // DEQ.
 use crate::Found;
-use crate::Served;
 use crate::codes::deq_codes_due;
 use crate::goes_on;
 use crate::looks::deq_looks;
-use crate::made;
-use crate::served_as;
+use crate::reply_to;
 use crate::too_short;
 use crate::unlooked;
 use crate::write_due;
@@ -19,19 +17,20 @@ use names::list::names_good;
 use queue::Queue;
 use tables::AllTables;
 use tables::made::Made;
-use tasks::TaskTable;
+use tables::made::goes;
+use tables::made::stays;
 ghost use mathlib.Core.Path.{_≡_};
 ghost use Rattle.rules.specs.Deq.{deqVerdict, deqDone};
 ghost use Rattle.tables.specs.Tables.{stepOf, Admitted};
 ghost use Rattle.tables.specs.Bodies.{told, bodyOf};
 ghost use Prim.Native.Nat.{_≤_};
 ghost use lib.ListN.{length};
-ghost use Rattle.kinds.specs.Limits.{mostEntries, longestList};
+ghost use Rattle.kinds.specs.Limits.{mostEntries};
 ghost use Rattle.names.specs.Named.{namesIn};
 ghost use Rattle.rules.specs.Tests.{firstOf};
 ghost use Rattle.queue.specs.Queues.{entriesIn};
 ghost use Rattle.resources.specs.Looking.{deqAsked, deqWeighed, deqFound};
-ghost use Rattle.resources.specs.Serving.{CallerAdmitted, goneOn, givenUp, deqServed, deqLeaves};
+ghost use Rattle.resources.specs.Serving.{deqLeaves};
 
 // What the request alone says: 101, 104.
 fn deq_asked(ret: DeqRet, l: NameList, room: usize) -> Verdict
@@ -70,43 +69,8 @@ pub fn deq_found(q: Queue, caller: TaskNumber, ret: DeqRet, l: NameList, room: u
     Found { verdict, looks }
 }
 
-// The caller's entries for these names go, and whoever waited for them only is ready.
-fn released(q: Queue, f: TaskTable, caller: TaskNumber, names: NameList, zero: bool) -> Served
-    requires { ⌜ CallerAdmitted q f caller × (names .count ≤ longestList) ⌝ }
-    ensures { λ r. ⌜ r ≡ goneOn zero (givenUp q f (caller .0) (namesIn names)) ⌝ }
-{
-    let entries = queue::releasing::release(q, caller, names);
-    let tasks = between::waking::wake(entries, f);
-    served_as(Verdict::Go, zero, entries, tasks)
-}
-
-// DEQ, of the two tables that it touches: its tests; where they go on, codes are written where they are due, and the
-// caller's entries for the names go.
-pub fn deq_on_queue(
-    q: Queue,
-    f: TaskTable,
-    caller: TaskNumber,
-    ret: DeqRet,
-    names: NameList,
-    codes: &mut [u8],
-) -> Served
-    requires { ⌜ CallerAdmitted q f caller ⌝ }
-    ensures { λ r. ⌜ r ≡ deqServed q f caller ret (namesIn names) (now (codes .entry)) ⌝ }
-    ensures { λ _. ⌜ now (codes .exit) ≡ deqLeaves q caller ret (namesIn names) (now (codes .entry)) ⌝ }
-{
-    let room = codes.len();
-    let found = deq_found(q, caller, ret, names, room);
-    let verdict = found.verdict;
-    if !goes_on(verdict) {
-        return served_as(verdict, true, q, f);
-    }
-    let looks = found.looks;
-    let k = looks.codes;
-    write_due(deq_codes_due(ret), k, names, codes);
-    released(q, f, caller, names, looks.zero)
-}
-
-// DEQ, of all tables.
+// DEQ's tests; where they go on, codes are written where they are due, the caller's entries for the names go, and
+// whoever waited for them only is ready.
 pub fn served(
     t: AllTables,
     caller: TaskNumber,
@@ -120,8 +84,19 @@ pub fn served(
         (deqDone (stepOf t) caller ret (namesIn names)) ⌝ }
     ensures { λ _. ⌜ now (codes .exit) ≡ deqLeaves (t .queue) caller ret (namesIn names) (now (codes .entry)) ⌝ }
 {
-    let q = t.queue;
-    let f = t.tasks;
-    let k = deq_on_queue(q, f, caller, ret, names, codes);
-    made(t, k)
+    let room = codes.len();
+    let found = deq_found(t.queue, caller, ret, names, room);
+    let verdict = found.verdict;
+    if !goes_on(verdict) {
+        return stays(verdict, t);
+    }
+    let looks = found.looks;
+    let k = looks.codes;
+    write_due(deq_codes_due(ret), k, names, codes);
+    let q = queue::releasing::release(t.queue, caller, names);
+    let f = between::waking::wake(q, t.tasks);
+    goes(
+        reply_to(looks.zero),
+        tables::put_tasks(tables::put_queue(t, q), f),
+    )
 }

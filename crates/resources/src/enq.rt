@@ -1,14 +1,12 @@
 // ENQ.
 use crate::Found;
-use crate::Served;
 use crate::codes::enq_codes_due;
 use crate::goes_on;
 use crate::looks::Looks;
 use crate::looks::asks_free;
 use crate::looks::enq_looks;
 use crate::looks::wants_entry;
-use crate::made;
-use crate::served_as;
+use crate::reply_to;
 use crate::too_short;
 use crate::unlooked;
 use crate::write_due;
@@ -27,25 +25,23 @@ use queue::Queue;
 use queue::looks::Flags;
 use tables::AllTables;
 use tables::made::Made;
+use tables::made::goes;
+use tables::made::stays;
 use tasks::TaskTable;
 ghost use mathlib.Core.Path.{_≡_};
 ghost use Rattle.rules.specs.Enq.{enqVerdict, enqDone};
 ghost use Rattle.tables.specs.Tables.{stepOf, Admitted};
 ghost use Rattle.tables.specs.Bodies.{told, bodyOf};
-ghost use mathlib.Core.Bool.{true, not};
 ghost use Prim.Native.Nat.{_+_, _≤_};
 ghost use lib.ListN.{length};
-ghost use Rattle.lists.specs.Lists.{every, unskipped};
-ghost use Rattle.kinds.specs.Limits.{mostEntries, longestList};
+ghost use Rattle.kinds.specs.Limits.{lowestTask, highestTask, mostEntries, longestList};
 ghost use Rattle.names.specs.Named.{namesIn};
 ghost use Rattle.rules.specs.Tests.{firstOf};
-ghost use Rattle.rules.specs.Control.{available};
 ghost use Rattle.rules.specs.Enq.{enqGood};
-ghost use Rattle.queue.specs.Queues.{entriesIn};
-ghost use Rattle.resources.specs.Coding.{asksFree};
+ghost use Rattle.queue.specs.Queues.{entriesIn, storedEntries, PackedEntries};
+ghost use Rattle.tasks.specs.TaskTables.{taskTableOf};
 ghost use Rattle.resources.specs.Looking.{queuesBy, freshNames, fewFree, enqAsked, enqWeighed, enqFound};
-ghost use Rattle.resources.specs.Serving.{CallerAdmitted, EnqTold, tailed, goneOn, enqGone};
-ghost use Rattle.resources.specs.Serving.{enqServed, enqLeaves};
+ghost use Rattle.resources.specs.Serving.{EnqTold, callerWaits, queueLeft, tasksLeft, enqLeaves};
 
 // 101. Only of a good list are the modes looked at.
 fn enq_good(ret: Ret, l: NameList) -> bool
@@ -146,93 +142,46 @@ pub fn enq_found(q: Queue, caller: TaskNumber, ret: Ret, l: NameList, room: usiz
 }
 
 // The caller waits for one of the names that are queued for. USE has looked before, and queues only what is available.
-fn waits(q: Queue, ret: Ret, names: NameList, skip: Flags) -> bool
+fn waits(q: Queue, ret: Ret, names: NameList, looks: Looks) -> bool
     requires { ⌜ (q .count ≤ mostEntries) × (names .count ≤ longestList) ⌝ }
-    requires { ⌜ (asksFree ret ≡ true
-        → every (available (entriesIn q)) (unskipped (skip .of) (namesIn names .asks)) ≡ true) ⌝ }
-    ensures { λ r. ⌜ r ≡ not (every (available (entriesIn q)) (unskipped (skip .of) (namesIn names .asks))) ⌝ }
+    ensures { λ r. ⌜ r ≡ callerWaits ret (entriesIn q) (namesIn names) looks ⌝ }
 {
-    if asks_free(ret) {
+    if asks_free(ret) | !queues(ret, looks.zero) {
         return false;
     }
     let free = queue::looks::available(q, names);
-    !queue::looks::all_set_but(free, skip, names.count)
+    !queue::looks::all_set_but(free, looks.has, names.count)
 }
 
-// The names, but for those that the caller has an entry for, stand at the tail.
-fn queued(
-    q: Queue,
-    f: TaskTable,
-    caller: TaskNumber,
-    ret: Ret,
-    names: NameList,
-    looks: Looks,
-) -> Served
-    requires { ⌜ CallerAdmitted q f caller × EnqTold ret (entriesIn q) (caller .0) (namesIn names) looks ⌝ }
-    requires { ⌜ queuesBy ret (looks .zero) ≡ true ⌝ }
-    ensures { λ r. ⌜ r ≡ goneOn (looks .zero) (tailed ret q f (caller .0) (namesIn names)) ⌝ }
+// What each RET kind makes of the queue, USE and CHNG only if every code is 0: the names stand at the tail, but for
+// those that the caller has an entry for; under CHNG its entries for them are made exclusive.
+fn queue_left(q: Queue, caller: TaskNumber, ret: Ret, names: NameList, looks: Looks) -> Queue
+    requires { ⌜ PackedEntries q × EnqTold ret (entriesIn q) (caller .0) (namesIn names) looks ⌝ }
+    ensures { λ r. ⌜ r ≡ storedEntries (queueLeft ret (entriesIn q) (caller .0) (namesIn names) (looks .zero)) ⌝ }
 {
-    let skip = looks.has;
-    let entries = queue::queuing::with_tail(q, caller, names, skip);
-    if !waits(q, ret, names, skip) {
-        return served_as(Verdict::Go, looks.zero, entries, f);
+    if queues(ret, looks.zero) {
+        return queue::queuing::with_tail(q, caller, names, looks.has);
+    }
+    if wants_entry(ret) & looks.zero {
+        return queue::queuing::made_exclusive(q, caller, names);
+    }
+    q
+}
+
+// And of the tasks: nobody but the caller begins to wait. Where it alone owns, CHNG changes nobody's control.
+fn tasks_left(f: TaskTable, caller: TaskNumber, waits: bool) -> TaskTable
+    requires { ⌜ (lowestTask ≤ caller .0) × (caller .0 ≤ highestTask) ⌝ }
+    ensures { λ r. ⌜ r ≡ taskTableOf (tasksLeft (f .places) (caller .0) waits) ⌝ }
+{
+    if !waits {
+        return f;
     }
     let x = tasks::at(f, caller);
     let y = x.with_condition(Condition::ResourceWait);
-    let g = tasks::with_place(f, caller, y);
-    served_as(Verdict::Go, looks.zero, entries, g)
+    tasks::with_place(f, caller, y)
 }
 
-// What each RET kind does, USE and CHNG only if every code is 0. Where the caller alone owns, CHNG changes nobody's
-// control, and so no task.
-fn changed(
-    q: Queue,
-    f: TaskTable,
-    caller: TaskNumber,
-    ret: Ret,
-    names: NameList,
-    looks: Looks,
-) -> Served
-    requires { ⌜ CallerAdmitted q f caller × EnqTold ret (entriesIn q) (caller .0) (namesIn names) looks ⌝ }
-    ensures { λ r. ⌜ r ≡ enqGone ret q f (caller .0) (namesIn names) ⌝ }
-{
-    if queues(ret, looks.zero) {
-        return queued(q, f, caller, ret, names, looks);
-    }
-    if wants_entry(ret) & looks.zero {
-        let entries = queue::queuing::made_exclusive(q, caller, names);
-        return served_as(Verdict::Go, looks.zero, entries, f);
-    }
-    served_as(Verdict::Go, looks.zero, q, f)
-}
-
-// ENQ, of the two tables that it touches: its tests; where they go on, codes are written where they are due, and the
-// names queued for or made exclusive.
-pub fn enq_on_queue(
-    q: Queue,
-    f: TaskTable,
-    caller: TaskNumber,
-    ret: Ret,
-    names: NameList,
-    codes: &mut [u8],
-) -> Served
-    requires { ⌜ CallerAdmitted q f caller ⌝ }
-    ensures { λ r. ⌜ r ≡ enqServed q f caller ret (namesIn names) (now (codes .entry)) ⌝ }
-    ensures { λ _. ⌜ now (codes .exit) ≡ enqLeaves q caller ret (namesIn names) (now (codes .entry)) ⌝ }
-{
-    let room = codes.len();
-    let found = enq_found(q, caller, ret, names, room);
-    let verdict = found.verdict;
-    if !goes_on(verdict) {
-        return served_as(verdict, true, q, f);
-    }
-    let looks = found.looks;
-    let k = looks.codes;
-    write_due(enq_codes_due(ret), k, names, codes);
-    changed(q, f, caller, ret, names, looks)
-}
-
-// ENQ, of all tables.
+// ENQ's tests; where they go on, codes are written where they are due, and the names queued for or made exclusive.
 pub fn served(t: AllTables, caller: TaskNumber, ret: Ret, names: NameList, codes: &mut [u8]) -> Made
     requires { ⌜ Admitted t caller ⌝ }
     ensures { λ r. ⌜ told r
@@ -240,8 +189,19 @@ pub fn served(t: AllTables, caller: TaskNumber, ret: Ret, names: NameList, codes
         (enqDone (stepOf t) caller ret (namesIn names)) ⌝ }
     ensures { λ _. ⌜ now (codes .exit) ≡ enqLeaves (t .queue) caller ret (namesIn names) (now (codes .entry)) ⌝ }
 {
-    let q = t.queue;
-    let f = t.tasks;
-    let k = enq_on_queue(q, f, caller, ret, names, codes);
-    made(t, k)
+    let room = codes.len();
+    let found = enq_found(t.queue, caller, ret, names, room);
+    let verdict = found.verdict;
+    if !goes_on(verdict) {
+        return stays(verdict, t);
+    }
+    let looks = found.looks;
+    let k = looks.codes;
+    write_due(enq_codes_due(ret), k, names, codes);
+    let q = queue_left(t.queue, caller, ret, names, looks);
+    let f = tasks_left(t.tasks, caller, waits(t.queue, ret, names, looks));
+    goes(
+        reply_to(looks.zero),
+        tables::put_tasks(tables::put_queue(t, q), f),
+    )
 }

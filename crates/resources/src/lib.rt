@@ -1,4 +1,4 @@
-// ENQ and DEQ, on the queue and the tasks.
+// ENQ and DEQ: their tests, and what they make of the queue and the tasks.
 pub mod codes;
 pub mod deq;
 pub mod enq;
@@ -9,13 +9,9 @@ use crate::looks::Looks;
 use kinds::NameList;
 use kinds::Reply;
 use kinds::Verdict;
-use queue::Queue;
 use queue::looks::Flags;
-use tables::AllTables;
-use tables::made::Made;
-use tasks::TaskTable;
 ghost use mathlib.Core.Path.{_≡_};
-ghost use mathlib.Core.Bool.{true, _&&_};
+ghost use mathlib.Core.Bool.{_&&_};
 ghost use Prim.Native.Nat.{_≤_};
 ghost use lib.ListN.{length, take};
 ghost use Rattle.kinds.specs.Limits.{longestList};
@@ -23,37 +19,12 @@ ghost use Rattle.names.specs.Named.{namesIn};
 ghost use Rattle.rules.specs.Codes.{tooShort};
 ghost use Rattle.laws.specs.Passed.{CodesFit};
 ghost use Rattle.resources.specs.Looking.{unlookedBy};
-ghost use Rattle.resources.specs.Serving.{madeOf, isGo, servedAs, writtenIf};
+ghost use Rattle.resources.specs.Serving.{isGo, replyTo, writtenIf};
 
 // The verdict on a request, and what was looked for before it was given.
 pub struct Found {
     pub verdict: Verdict,
     pub looks: Looks,
-}
-
-// What a service makes of the two tables that it touches: they change only where its verdict is to go on.
-pub struct Served {
-    pub verdict: Verdict,
-    pub reply: Reply,
-    pub queue: Queue,
-    pub tasks: TaskTable,
-}
-
-// The two tables, put among all of them.
-fn made(t: AllTables, k: Served) -> Made
-    ensures { λ r. ⌜ r ≡ madeOf t k ⌝ }
-{
-    let q = k.queue;
-    let f = k.tasks;
-    let reply = k.reply;
-    let verdict = k.verdict;
-    let u = tables::put_queue(t, q);
-    let w = tables::put_tasks(u, f);
-    Made {
-        verdict,
-        reply,
-        tables: w,
-    }
 }
 
 fn goes_on(verdict: Verdict) -> bool
@@ -94,23 +65,13 @@ fn unlooked(verdict: Verdict) -> Found
 }
 
 // The answer is 0 if every code is 0, else 4.
-fn served_as(verdict: Verdict, zero: bool, queue: Queue, tasks: TaskTable) -> Served
-    ensures { λ r. ⌜ r ≡ servedAs verdict zero queue tasks ⌝ }
+fn reply_to(zero: bool) -> Reply
+    ensures { λ r. ⌜ r ≡ replyTo zero ⌝ }
 {
     if zero {
-        return Served {
-            verdict,
-            reply: Reply::Done,
-            queue,
-            tasks,
-        };
+        return Reply::Done;
     }
-    Served {
-        verdict,
-        reply: Reply::Four,
-        queue,
-        tasks,
-    }
+    Reply::Four
 }
 
 // The codes of the names go to the front of the area if they are due, and else no byte changes.

@@ -5,7 +5,7 @@ use mathlib.Core.List.{List}
 use Prim.Native.Nat.{ℕ, zero, suc, _≤_, _<_}
 use native.Mathlib.Omega.{arith}
 use lib.Dec.{eqb}
-use borrow.Author.Tests.{eqb-true, eqb-false}
+use borrow.Author.Tests.{eqb-true, eq-eqb}
 use Rattle.lists.specs.Lists.{some, every}
 use Rattle.lists.specs.Every.{every-one, every-of}
 use Rattle.kinds.specs.Ranges.{taskGood}
@@ -16,18 +16,17 @@ use Rattle.laws.specs.Grouping.{same-numbers, firsts-all}
 use Rattle.laws.specs.OnRing.{waiter-has}
 use Rattle.queue.specs.Marking.{markedBy, Marked, marks-are}
 use Rattle.queue.specs.declared.marks.Marks.{Marks}
-use Rattle.rings.specs.Ways.{wayAt, waysBy, down, wide, way-at}
+use Rattle.rings.specs.Ways.{wayAt, waysBy, down, wide, way-at, none-below}
 use Rattle.rings.specs.declared.ways.Ways.{Ways}
 use Rattle.rings.proofs.InRange.{good-high}
 
 -- among the numbers of the table
 down-has : (a n : ℕ) → a < n → some (eqb a) (down n) ≡ true
-down-has a zero h = absurd (omega arith)
-down-has a (suc n) h = one (eqb a n) refl (down-has a n)
+down-has a n h = one (some (eqb a) (down n)) refl
   where
-    one : (o : Bool) → eqb a n ≡ o → (a < n → some (eqb a) (down n) ≡ true) → (o || some (eqb a) (down n)) ≡ true
-    one true u ih = refl
-    one false u ih = ih (omega (arith, eqb-false a n u))
+    one : (o : Bool) → some (eqb a) (down n) ≡ o → o ≡ true
+    one true u = refl
+    one false u = sym (none-below (eqb a) n u a h) ∙ eq-eqb a a refl
 
 -- STEPS THAT AGREE ON THE NUMBERS OF THE TABLE lead as far by way of them
 leads-alike : (f g : ℕ → ℕ → Bool) → ((a b : ℕ) → a < wide → b < wide → f a b ≡ g a b) → (n : ℕ) → n ≤ wide

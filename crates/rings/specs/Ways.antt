@@ -2,14 +2,15 @@
 use mathlib.Core.Path.{_≡_, refl, sym, ap, ap₂, _∙_}
 use mathlib.Core.Bool.{Bool, true, false, _&&_, _||_}
 use mathlib.Core.List.{List, [], _∷_, map}
-use Prim.Native.Nat.{ℕ, zero, suc, _+_, _*_, _/_, _%_, _≤_, _<_}
+use Prim.Native.Nat.{ℕ, zero, suc, _+_, _-_, _*_, _/_, _%_, _≤_, _<_}
 use native.Mathlib.Numerals.{add-one}
 use native.Mathlib.Omega.{arith}
 use lib.Dec.{eqb}
 use lib.ListN.{length, getD, set, length-map, length-set}
 use lib.Seq.{getD-set-same, getD-set-other, ext-getD}
 use borrow.Author.Tests.{eqb-true, eqb-false}
-use Rattle.lists.specs.Lists.{numbers}
+use Rattle.lists.specs.Lists.{numbers, some}
+use Rattle.lists.specs.Bools.{or-left, or-right}
 use Rattle.lists.specs.Numbered.{length-numbers, numbers-at}
 use Rattle.kinds.specs.Limits.{highestTask}
 use Rattle.rules.specs.Rings.{leadsBy}
@@ -133,9 +134,61 @@ full-set f g m a b so h k e other v =
           ∙ other (i / wide) (i % wide) (λ (r : a ≡ i / wide) (s : b ≡ i % wide). j (omega arith)));
     }
 
+-- A WAY LEADS ON from k
+unfoldable pub leadsOn : Ways → ℕ → Bool
+leadsOn m k = some (wayAt m k) (down wide)
+
+-- a loop that looks for one: the answer is that of the numbers below n
+pub record LeadsYet (m : Ways) (k n : ℕ) : Type 0 where
+  pub left : leadsOn m k ≡ some (wayAt m k) (down n)
+
+pub leads-start : {m : Ways} {k : ℕ} → LeadsYet m k wide
+unfolding leadsOn
+leads-start = record { left = refl }
+
+module _ {m : Ways} {k n : ℕ} (v : LeadsYet m k n) where
+  pub leads-over : n ≡ 0 → false ≡ leadsOn m k
+  leads-over e = sym (v .left ∙ ap (λ (i : ℕ). some (wayAt m k) (down i)) e)
+
+  -- the highest of them, of which b tells
+  module _ (h : 0 < n) {b : Bool} (t : b ≡ wayAt m k (n - 1)) where
+    looked : leadsOn m k ≡ (b || some (wayAt m k) (down (n - 1)))
+    looked =
+        let e : n ≡ suc (n - 1) = omega arith in
+        v .left ∙ ap (λ (i : ℕ). some (wayAt m k) (down i)) e
+        ∙ ap (λ (a : Bool). a || some (wayAt m k) (down (n - 1))) (sym t)
+
+    pub leads-found : b ≡ true → true ≡ leadsOn m k
+    leads-found e = sym (looked ∙ rw e)
+
+    pub leads-further : b ≡ false → LeadsYet m k (n - 1)
+    leads-further e = record { left = looked ∙ rw e }
+
 -- BY WAY OF k TOO
 abbrev pub joinedBy : Ways → ℕ → ℕ → ℕ → Bool
 joinedBy m k a b = wayAt m a b || (wayAt m a k && wayAt m k b)
+
+-- what a test that none below n passes says of each
+pub none-below : (f : ℕ → Bool) (n : ℕ) → some f (down n) ≡ false → (k : ℕ) → k < n → f k ≡ false
+none-below f zero h k l = absurd (omega arith)
+none-below f (suc n) h k l = one (eqb k n) refl (none-below f n (or-right (f n) _ h) k)
+  where
+    one : (t : Bool) → eqb k n ≡ t → (k < n → f k ≡ false) → f k ≡ false
+    one true q ih = ap f (eqb-true k n q) ∙ or-left (f n) _ h
+    one false q ih = ih (omega (arith, eqb-false k n q))
+
+-- where none leads on from k, it adds nothing
+pub joined-none : (m : Ways) (k : ℕ) → length (m .of) ≡ allWays → leadsOn m k ≡ false → m ≡ waysBy (joinedBy m k)
+unfolding leadsOn
+joined-none m k h e =
+    ways-whole m h
+    ∙ ways-same (wayAt m) (joinedBy m k)
+    (λ a b p q. rw (none-below (wayAt m k) wide e b q) (none (wayAt m a b) (wayAt m a k)))
+  where
+    none : (x y : Bool) → x ≡ (x || (y && false))
+    none true y = refl
+    none false true = refl
+    none false false = refl
 
 pub joined-next : (m r : Ways) (k n : ℕ) → n < allWays → Filled (joinedBy m k) n r
     → Filled (joinedBy m k) (n + 1)

@@ -9,7 +9,7 @@ ghost use lib.Dec.{eqb};
 ghost use Rattle.kinds.specs.Limits.{highestTask, mostEntries};
 ghost use Rattle.rules.specs.Rings.{bars, waitsFor, leadsBy};
 ghost use Rattle.queue.specs.Queues.{entryOf, entriesIn};
-ghost use Rattle.rings.specs.Ways.{wayAt, waysBy, joinedBy, down, wide};
+ghost use Rattle.rings.specs.Ways.{wayAt, waysBy, joinedBy, leadsOn, down, wide};
 
 // For each two task numbers, 0 to the highest, whether a way leads from the first to the second. A row has those from
 // one number.
@@ -65,11 +65,30 @@ pub(crate) fn steps(q: Queue) -> Ways
     r
 }
 
-// By way of k too.
+// A way leads on from k.
+fn leads_on(m: Ways, k: usize) -> bool
+    requires { ⌜ k ≤ highestTask ⌝ }
+    ensures { λ r. ⌜ r ≡ leadsOn m k ⌝ }
+{
+    let row = k * Marks::PLACES;
+    let mut n = Marks::PLACES;
+    while 0 < n {
+        n -= 1;
+        if m.of[row + n] {
+            return true;
+        }
+    }
+    false
+}
+
+// By way of k too. A task that waits for nobody adds no way, and most do not wait.
 fn joined(m: Ways, k: usize) -> Ways
     requires { ⌜ k ≤ highestTask ⌝ }
     ensures { λ r. ⌜ r ≡ waysBy (joinedBy m k) ⌝ }
 {
+    if !leads_on(m, k) {
+        return m;
+    }
     let mut r = m;
     let mut n = 0;
     while n < Ways::PLACES {

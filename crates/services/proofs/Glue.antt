@@ -18,6 +18,7 @@ use Rattle.kinds.specs.declared.numbers.TaskNumber.{TaskNumber}
 use Rattle.kinds.specs.declared.requests.Request.{Request}
 use Rattle.kinds.specs.declared.requests.Request.the-variants.{Attach, Detach, End, Abend, Enq, Deq, Wait, Post, Clear}
 use Rattle.kinds.specs.declared.requests.Request.the-variants.{Getmain, Freemain, Dispatch}
+use Rattle.kinds.specs.declared.replies.Reply.the-variants.{Dispatched}
 use Rattle.kinds.specs.declared.replies.Refusal.{Refusal}
 use Rattle.kinds.specs.declared.replies.Refusal.the-variants.{Unsound, OutOfRange}
 use Rattle.kinds.specs.declared.replies.Fault.{Fault}
@@ -32,7 +33,8 @@ use Rattle.rules.specs.Steps.{Step, Outcome, Served, refused, doneWith, done, k
 use Rattle.rules.specs.Family.{place}
 use Rattle.rules.specs.Fresh.{freshStep, freshGood, freshOf}
 use Rattle.rules.specs.Sound.{soundStep}
-use Rattle.rules.specs.Admission.{admitted, gateOf, openGate, through, settled, codesThrough}
+use Rattle.rules.specs.Ending.{failing}
+use Rattle.rules.specs.Admission.{admitted, gateOf, through, settled, codesThrough}
 use Rattle.rules.specs.Dispatch.{dispatched, dispatchBody}
 use Rattle.rules.specs.Form.{callerOf}
 use Rattle.rules.specs.Serve.{Asked, serviceOf, serviceTests, ownTests}
@@ -47,10 +49,11 @@ use Rattle.tables.specs.declared.made.Made.{Made}
 use Rattle.tables.proofs.Admits as admits
 use Rattle.services.specs.Kept.{inTables, stepOf, tablesOf, said, saidWith, servedBy, soundb, answered}
 use Rattle.services.specs.Kept.{answeredWith}
-use Rattle.services.specs.Serve.{servedOf, callerIn, gateFor, gated, Behind, settledAs}
+use Rattle.services.specs.Serve.{servedOf, callerIn, gateFor, gated, Behind, Ends, settledAs, Settles}
 use Rattle.services.specs.declared.Tables.{Tables}
 use Rattle.services.specs.declared.Answer.{Answer}
 use Rattle.services.specs.declared.Caller.{Caller}
+use Rattle.services.specs.declared.Caller.the-variants.{Nobody, Named}
 
 -- SOUND TABLES KEEP THEIR STEP
 
@@ -159,7 +162,7 @@ module _ (s : Step) (q : Request) (ns : Names) (es : Ecbs) (area : List ℕ) (wh
   shut-sorts o h (fails what d n g f e) = absurd (let z : _≡_ {A = ℕ} 0 1 = cc in omega arith)
   shut-sorts o h (goes f n) = absurd (let z : _≡_ {A = ℕ} 0 1 = cc in omega arith)
 
-  pub service-shut : gateAt s q ≡ Shut why → serviceOf s q ns es area ≡ untouched area (refused why s)
+  service-shut : gateAt s q ≡ Shut why → serviceOf s q ns es area ≡ untouched area (refused why s)
   service-shut h =
       shut-sorts _
       (tested s q ns es (length area) .behind
@@ -181,11 +184,14 @@ module _ (t : Tables) (q : Request) (ns : Names) (es : Ecbs) (area : List ℕ) w
       (λ k. service-shut (stepOf t) q ns es area why
       (sym (gate-named (stepOf t) q) ∙ ap (λ (x : Caller). gateFor x (stepOf t)) (sym n) ∙ k))
 
-  -- behind an open one stands what the rules say
-  pub serve-open : (o : Served Tables) → soundb t ≡ true → o ≡ servedBy (serviceOf (stepOf t) q ns es area)
-      → o ≡ servedOf t asked
+  -- behind an open one stands what the verdict of the service comes to
+  pub serve-open : (w : Caller) (k : Made) (left : List ℕ) (s : Outcome Tables) → w ≡ callerIn q → soundb t ≡ true
+      → Settles (t .all) ns es area k left q → s ≡ keptBy inTables (settledAs (told k) w)
+      → untouched left s ≡ servedOf t asked
   unfolding servedOf answeredWith
-  serve-open o h e = on-true (soundb t) _ _ _ h e
+  serve-open w k left s n h b e =
+      on-true (soundb t) _ _ _ h
+      (ap (untouched left) (e ∙ ap (λ (x : Caller). keptBy inTables (settledAs (told k) x)) n) ∙ b .says)
 
   -- the answer alone
   pub plain-said : (r : Answer) (left : List ℕ) → saidWith r left ≡ servedOf t asked
@@ -204,59 +210,92 @@ module _ (t : Tables) (q : Request) (ns : Names) (es : Ecbs) (area : List ℕ) w
 module _ (t : AllTables) (c : TaskNumber) (a : Admitted t c) (v : Verdict) (o : Outcome Step) (k : Made)
     (e : told k ≡ bodyOf v t o) where
   -- one that fails leaves the tables to the ending of its caller
-  pub fails-admitted : (what : Fault) → k .verdict ≡ Fail what → Admitted (k .tables) c
+  fails-admitted : (what : Fault) → k .verdict ≡ Fail what → Admitted (k .tables) c
   unfolding told bodyOf
   fails-admitted what h =
       let w : v ≡ Fail what = sym (ap (λ (x : Told). x .verdict) e) ∙ h in
       subst (λ (u : AllTables). Admitted u c)
       (sym (ap (λ (x : Told). x .outcome .tables) e ∙ ap (λ (x : Verdict). bodyOf x t o .outcome .tables) w)) a
 
-  settles : (u : Verdict) → settledAs (bodyOf u t o) c ≡ keptBy all.tablesOf (settled u (all.stepOf t) c o)
-  unfolding settledAs bodyOf settled
+  settles : (u : Verdict) → settledAs (bodyOf u t o) (Named c) ≡ keptBy all.tablesOf (settled u (all.stepOf t) c o)
+  unfolding settledAs bodyOf settled failing
   settles Go = refl
   settles (Refuse why) = ap (refused why) (sym (admits.packed-tables t (admits.admitted-packed t c a)))
   settles (Fail what) = refl
 
   -- what the verdict comes to is what the rules say
-  pub settles-so : (s : Outcome Tables) → s ≡ keptBy inTables (settledAs (told k) c)
-      → s ≡ keptBy tablesOf (through (gateOf (all.stepOf t) c) (all.stepOf t) (settled v (all.stepOf t) c o))
+  settles-so : keptBy inTables (settledAs (told k) (Named c))
+      ≡ keptBy tablesOf (through (gateOf (all.stepOf t) c) (all.stepOf t) (settled v (all.stepOf t) c o))
   unfolding through
-  settles-so s h =
-      rw (a .gate) (h ∙ ap (λ (x : Told). keptBy inTables (settledAs x c)) e ∙ ap (keptBy inTables) (settles v))
+  settles-so =
+      rw (a .gate) (ap (λ (x : Told). keptBy inTables (settledAs x (Named c))) e ∙ ap (keptBy inTables) (settles v))
 
-  -- and so with codes
-  pub coded-so : (s : Outcome Tables) (area left written : List ℕ) → s ≡ keptBy inTables (settledAs (told k) c)
+  -- so it is of a request of its caller
+  body-settles : (q : Request) → callerIn q ≡ Named c → (ns : Names) (es : Ecbs) (area left : List ℕ)
+      → serviceOf (all.stepOf t) q ns es area
+      ≡ untouched left (through (gateOf (all.stepOf t) c) (all.stepOf t) (settled v (all.stepOf t) c o))
+      → Settles t ns es area k left q
+  body-settles q n ns es area left so = record {
+    says =
+        ap (λ (w : Caller). untouched left (keptBy inTables (settledAs (told k) w))) n
+        ∙ ap (untouched left) settles-so ∙ ap servedBy (sym so);
+    ends = λ what h. subst (Ends (k .tables)) (sym n) (fails-admitted what h);
+  }
+
+  -- and of one with codes
+  coded-settles : (q : Request) → callerIn q ≡ Named c → (ns : Names) (es : Ecbs) (area left written : List ℕ)
       → left ≡ codesThrough Open v area written
-      → untouched left s ≡ servedBy (record {
+      → serviceOf (all.stepOf t) q ns es area ≡ record {
         outcome = through (gateOf (all.stepOf t) c) (all.stepOf t) (settled v (all.stepOf t) c o);
         codes = codesThrough (gateOf (all.stepOf t) c) v area written;
-      })
-  coded-so s area left written h w =
-      let l = w ∙ ap (λ (g : Gate). codesThrough g v area written) (sym (a .gate)) in
-      λ i. record { outcome = settles-so s h i; codes = l i }
+      } → Settles t ns es area k left q
+  coded-settles q n ns es area left written h so =
+      let l = ap (λ (g : Gate). codesThrough g v area written) (a .gate) ∙ sym h in
+      body-settles q n ns es area left
+      (so ∙ ap (λ (x : List ℕ). untouched x
+      (through (gateOf (all.stepOf t) c) (all.stepOf t) (settled v (all.stepOf t) c o))) l)
 
 -- a request q that is known to be k
 module _ (t : AllTables) (q k : Request) (e : q ≡ k) where
-  -- names its caller
-  pub behind-admits : (c : TaskNumber) → gateAt (all.stepOf t) k ≡ gateOf (all.stepOf t) c → Behind t q → Admitted t c
-  behind-admits c n b = record {
-    sound = b .sound;
-    gate = sym (ap (gateAt (all.stepOf t)) e ∙ n) ∙ b .gate;
-  }
+  pub known : {ns : Names} {es : Ecbs} {area left : List ℕ} {r : Made} → Settles t ns es area r left k
+      → Settles t ns es area r left q
+  known {ns = ns} {es = es} {area = area} {left = left} {r = r} = subst (Settles t ns es area r left) (sym e)
 
-  pub known : (ns : Names) (es : Ecbs) (area : List ℕ) (o : Served Tables)
-      → o ≡ servedBy (serviceOf (all.stepOf t) k ns es area) → o ≡ servedBy (serviceOf (all.stepOf t) q ns es area)
-  known ns es area o h = h ∙ ap (λ (x : Request). servedBy (serviceOf (all.stepOf t) x ns es area)) (sym e)
+  -- and names its caller
+  module _ (b : Behind t q) (c : TaskNumber) (n : gateAt (all.stepOf t) k ≡ gateOf (all.stepOf t) c) where
+    pub behind-admits : Admitted t c
+    behind-admits = record { sound = b .sound; gate = sym (ap (gateAt (all.stepOf t)) e ∙ n) ∙ b .gate }
+
+    -- with the body of its service
+    module _ (m : callerIn k ≡ Named c) (v : Verdict) (o : Outcome Step) (r : Made) (h : told r ≡ bodyOf v t o) where
+      pub plain-known : (ns : Names) (es : Ecbs) (area : List ℕ)
+          → serviceOf (all.stepOf t) k ns es area
+          ≡ untouched area (through (gateOf (all.stepOf t) c) (all.stepOf t) (settled v (all.stepOf t) c o))
+          → Settles t ns es area r area q
+      plain-known ns es area so = known (body-settles t c behind-admits v o r h k m ns es area area so)
+
+      pub coded-known : (ns : Names) (es : Ecbs) (area left written : List ℕ) → left ≡ codesThrough Open v area written
+          → serviceOf (all.stepOf t) k ns es area ≡ record {
+            outcome = through (gateOf (all.stepOf t) c) (all.stepOf t) (settled v (all.stepOf t) c o);
+            codes = codesThrough (gateOf (all.stepOf t) c) v area written;
+          } → Settles t ns es area r left q
+      coded-known ns es area left written l so =
+          known (coded-settles t c behind-admits v o r h k m ns es area left written l so)
 
 -- DISPATCH changes nothing
-pub dispatches : (t : AllTables) (n : TaskNumber) (s : Outcome Tables) → Behind t Dispatch
-    → n .0 ≡ dispatched (t .tasks .places) → s ≡ doneWith (TheNumber n) (inTables t)
-    → s ≡ keptBy tablesOf (through (openGate (all.stepOf t)) (all.stepOf t) (dispatchBody (all.stepOf t)))
-unfolding dispatchBody through
-dispatches t n s b e a =
-    rw (b .gate) (a ∙ ap (λ (m : ℕ). doneWith (TheNumber (record { 0 = m })) (inTables t)) e
-    ∙ ap (λ (u : AllTables). doneWith (TheNumber (record { 0 = dispatched (t .tasks .places) })) (inTables u))
-    (sym (admits.sound-tables t (b .sound))))
+pub dispatch-settles : (t : AllTables) (n : TaskNumber) (k : Made) (ns : Names) (es : Ecbs) (area : List ℕ)
+    → Behind t Dispatch → n .0 ≡ dispatched (t .tasks .places)
+    → k ≡ record { verdict = Go; reply = Dispatched n; tables = t } → Settles t ns es area k area Dispatch
+unfolding serviceOf dispatchBody through settledAs told
+dispatch-settles t n k ns es area b e h = record {
+  says =
+      ap (λ (x : Made). untouched area (keptBy inTables (settledAs (told x) Nobody))) h
+      ∙ rw (b .gate) (ap (λ (m : ℕ). untouched area (doneWith (TheNumber (record { 0 = m })) (inTables t))) e
+      ∙ ap (λ (u : AllTables). untouched area
+      (doneWith (TheNumber (record { 0 = dispatched (t .tasks .places) })) (inTables u)))
+      (sym (admits.sound-tables t (b .sound))));
+  ends = λ what f. absurd (let z : _≡_ {A = ℕ} 0 1 = cc in omega arith);
+}
 
 -- A FRESH START
 

@@ -16,6 +16,7 @@ pub mod serve;
 pub mod stuck;
 pub mod wait;
 
+use kinds::Fault;
 use kinds::Gate;
 use kinds::Refusal;
 use kinds::Reply;
@@ -28,7 +29,7 @@ ghost use Rattle.rules.specs.Steps.{keptBy};
 ghost use Rattle.rules.specs.Admission.{admitted};
 ghost use Rattle.tables.specs.Bodies.{replied, told};
 ghost use Rattle.services.specs.Kept.{inTables, said, soundb};
-ghost use Rattle.services.specs.Serve.{gated, gateFor, settledAs, EndsIfFailed};
+ghost use Rattle.services.specs.Serve.{gated, gateFor, Ends, endedBy, settledAs, EndsIfFailed};
 
 pub struct Tables {
     pub all: AllTables,
@@ -50,8 +51,7 @@ impl Tables {
     pub fn sound(self) -> bool
         ensures { λ r. ⌜ r ≡ soundb self ⌝ }
     {
-        let t = self.all;
-        tables::sound::sound(t)
+        tables::sound::sound(self.all)
     }
 }
 
@@ -81,8 +81,7 @@ fn gate(t: AllTables, who: Caller) -> Gate
     match who {
         Caller::Nobody => admit(t.over, true, false),
         Caller::Named(caller) => {
-            let f = t.tasks;
-            let x = tasks::at(f, caller);
+            let x = tasks::at(t.tasks, caller);
             let k = x.condition;
             admit(t.over, k.is_live(), k.waits())
         }
@@ -98,22 +97,28 @@ fn answering(t: AllTables, reply: Reply) -> Answer
     }
 }
 
-// What the verdict of an admitted caller's service comes to: only where it is to go on does the service's own answer
-// stand, and a program error ends the caller with its number. A body that does not go on leaves the tables as it got
-// them.
-fn settled(caller: TaskNumber, k: Made) -> Answer
-    requires { ⌜ EndsIfFailed k caller ⌝ }
-    ensures { λ r. ⌜ said r ≡ keptBy inTables (settledAs (told k) caller) ⌝ }
+// A program error ends its caller, with its number. Only a caller's request can fail, so there is one.
+fn ended_by(t: AllTables, who: Caller, what: Fault) -> AllTables
+    requires { ⌜ Ends t who ⌝ }
+    ensures { λ r. ⌜ r ≡ endedBy what t who ⌝ }
 {
-    let t = k.tables;
-    let reply = k.reply;
+    match who {
+        Caller::Nobody => t,
+        Caller::Named(caller) => tables::ending::ended(t, caller, what.number()),
+    }
+}
+
+// What the verdict of a service comes to: only where it is to go on does the service's own answer stand. A body that
+// does not go on leaves the tables as it got them.
+fn settled(who: Caller, k: Made) -> Answer
+    requires { ⌜ EndsIfFailed k who ⌝ }
+    ensures { λ r. ⌜ said r ≡ keptBy inTables (settledAs (told k) who) ⌝ }
+{
     let verdict = k.verdict;
+    let reply = k.reply;
     match verdict {
-        Verdict::Go => answering(t, reply),
-        Verdict::Refuse(why) => answering(t, Reply::Refused(why)),
-        Verdict::Fail(what) => {
-            let left = tables::ending::ended(t, caller, what.number());
-            answering(left, Reply::Failed(what))
-        }
+        Verdict::Go => answering(k.tables, reply),
+        Verdict::Refuse(why) => answering(k.tables, Reply::Refused(why)),
+        Verdict::Fail(what) => answering(ended_by(k.tables, who, what), Reply::Failed(what)),
     }
 }

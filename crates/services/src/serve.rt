@@ -22,71 +22,42 @@ use subtasks::attach;
 use subtasks::detach;
 use subtasks::end;
 use tables::AllTables;
+use tables::made::Made;
+use tables::made::goes;
 ghost use mathlib.Core.Path.{_≡_};
 ghost use mathlib.Core.List.{[]};
 ghost use Rattle.kinds.specs.Beside.{noNames};
 ghost use Rattle.names.specs.Named.{namesIn};
 ghost use Rattle.ecbs.specs.Blocks.{ecbsIn};
 ghost use Rattle.rules.specs.Serve.{serviceOf};
-ghost use Rattle.tables.specs.Tables.{stepOf};
-ghost use Rattle.services.specs.Kept.{said, saidWith, servedBy, answered};
-ghost use Rattle.services.specs.Serve.{servedOf, callerIn, Behind};
+ghost use Rattle.services.specs.Kept.{said, saidWith, answered};
+ghost use Rattle.services.specs.Serve.{servedOf, callerIn, Behind, Settles};
 
 // All but DISPATCH name the calling task.
 fn caller_of(request: Request) -> Caller
     ensures { λ r. ⌜ r ≡ callerIn request ⌝ }
 {
     match request {
-        Request::Attach {
-            caller,
-            lpmod: _,
-            dpmod: _,
-            ecb: _,
-        } => Caller::Named(caller),
-        Request::Detach { caller, task: _ } => Caller::Named(caller),
-        Request::End { caller, code: _ } => Caller::Named(caller),
-        Request::Abend {
-            caller,
-            code: _,
-            step: _,
-        } => Caller::Named(caller),
-        Request::Enq { caller, ret: _ } => Caller::Named(caller),
-        Request::Deq { caller, ret: _ } => Caller::Named(caller),
-        Request::Wait { caller, count: _ } => Caller::Named(caller),
-        Request::Post {
-            caller,
-            ecb: _,
-            code: _,
-        } => Caller::Named(caller),
-        Request::Clear { caller, ecb: _ } => Caller::Named(caller),
-        Request::Getmain {
-            caller,
-            length: _,
-            subpool: _,
-            conditional: _,
-        } => Caller::Named(caller),
-        Request::Freemain {
-            caller,
-            address: _,
-            length: _,
-            subpool: _,
-        } => Caller::Named(caller),
+        Request::Attach { caller, .. } => Caller::Named(caller),
+        Request::Detach { caller, .. } => Caller::Named(caller),
+        Request::End { caller, .. } => Caller::Named(caller),
+        Request::Abend { caller, .. } => Caller::Named(caller),
+        Request::Enq { caller, .. } => Caller::Named(caller),
+        Request::Deq { caller, .. } => Caller::Named(caller),
+        Request::Wait { caller, .. } => Caller::Named(caller),
+        Request::Post { caller, .. } => Caller::Named(caller),
+        Request::Clear { caller, .. } => Caller::Named(caller),
+        Request::Getmain { caller, .. } => Caller::Named(caller),
+        Request::Freemain { caller, .. } => Caller::Named(caller),
         Request::Dispatch => Caller::Nobody,
     }
 }
 
-// The service that the request names, behind an open gate.
+// The body of the service that the request names, behind an open gate.
 // Only ENQ and DEQ look at the names and the codes area, only WAIT at the ECBs.
-fn served(
-    t: AllTables,
-    request: Request,
-    names: NameList,
-    ecbs: EcbList,
-    codes: &mut [u8],
-) -> Answer
+fn served(t: AllTables, request: Request, names: NameList, ecbs: EcbList, codes: &mut [u8]) -> Made
     requires { ⌜ Behind t request ⌝ }
-    ensures { λ r. ⌜ saidWith r (now (codes .exit))
-        ≡ servedBy (serviceOf (stepOf t) request (namesIn names) (ecbsIn ecbs) (now (codes .entry))) ⌝ }
+    ensures { λ r. ⌜ Settles t (namesIn names) (ecbsIn ecbs) (now (codes .entry)) r (now (codes .exit)) request ⌝ }
 {
     match request {
         Request::Attach {
@@ -94,40 +65,30 @@ fn served(
             lpmod,
             dpmod,
             ecb,
-        } => settled(caller, attach::served(t, caller, lpmod, dpmod, ecb)),
-        Request::Detach { caller, task } => settled(caller, detach::served(t, caller, task)),
-        Request::End { caller, code } => settled(caller, end::served(t, caller, code)),
-        Request::Abend { caller, code, step } => settled(
-            caller,
-            abend::served(t, caller, code, step),
-        ),
-        Request::Enq { caller, ret } => settled(caller, enq::served(t, caller, ret, names, codes)),
-        Request::Deq { caller, ret } => settled(caller, deq::served(t, caller, ret, names, codes)),
-        Request::Wait { caller, count } => settled(caller, wait::served(t, caller, ecbs, count)),
-        Request::Post { caller, ecb, code } => settled(caller, post::served(t, ecb, code)),
-        Request::Clear { caller, ecb } => settled(caller, clear::served(t, ecb)),
+        } => attach::served(t, caller, lpmod, dpmod, ecb),
+        Request::Detach { caller, task } => detach::served(t, caller, task),
+        Request::End { caller, code } => end::served(t, caller, code),
+        Request::Abend { caller, code, step } => abend::served(t, caller, code, step),
+        Request::Enq { caller, ret } => enq::served(t, caller, ret, names, codes),
+        Request::Deq { caller, ret } => deq::served(t, caller, ret, names, codes),
+        Request::Wait { caller, count } => wait::served(t, caller, ecbs, count),
+        Request::Post { ecb, code, .. } => post::served(t, ecb, code),
+        Request::Clear { ecb, .. } => clear::served(t, ecb),
         Request::Getmain {
             caller,
             length,
             subpool,
             conditional,
-        } => settled(
-            caller,
-            getmain::served(t, caller, length, subpool, conditional),
-        ),
+        } => getmain::served(t, caller, length, subpool, conditional),
         Request::Freemain {
             caller,
             address,
             length,
             subpool,
-        } => settled(
-            caller,
-            freemain::served(t, caller, address, length, subpool),
-        ),
+        } => freemain::served(t, caller, address, length, subpool),
         Request::Dispatch => {
-            let f = t.tasks;
-            let n = tasks::choice::dispatched(f);
-            answering(t, Reply::Dispatched(n))
+            let n = tasks::choice::dispatched(t.tasks);
+            goes(Reply::Dispatched(n), t)
         }
     }
 }
@@ -144,10 +105,10 @@ impl Tables {
                   (codes .entry);
             }) ⌝ }
     {
-        let t = self.all;
-        match gate(t, caller_of(request)) {
-            Gate::Shut(why) => answering(t, Reply::Refused(why)),
-            Gate::Open => served(t, request, names, ecbs, codes),
+        let who = caller_of(request);
+        match gate(self.all, who) {
+            Gate::Shut(why) => answering(self.all, Reply::Refused(why)),
+            Gate::Open => settled(who, served(self.all, request, names, ecbs, codes)),
         }
     }
 

@@ -15,14 +15,9 @@ impl Tables {
     pub fn stuck(self, list: &mut [u8]) -> Answer
         ensures { λ r. ⌜ saidWith r (now (list .exit)) ≡ answeredWith self (now (list .entry)) stuckReport ⌝ }
     {
-        let t = self.all;
-        match gate(t, Caller::Nobody) {
-            Gate::Shut(why) => answering(t, Reply::Refused(why)),
-            Gate::Open => {
-                let q = t.queue;
-                let r = rings::reports::stuck(q, list);
-                answering(t, r)
-            }
+        match gate(self.all, Caller::Nobody) {
+            Gate::Shut(why) => answering(self.all, Reply::Refused(why)),
+            Gate::Open => answering(self.all, rings::reports::stuck(self.all.queue, list)),
         }
     }
 }

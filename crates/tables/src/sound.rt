@@ -90,15 +90,11 @@ fn running_good(t: AllTables) -> bool
     requires { ⌜ (t .queue .count ≤ mostEntries) × (t .storage .count ≤ mostAreas) ⌝ }
     ensures { λ r. ⌜ r ≡ runningGood (stepOf t) ⌝ }
 {
-    let f = t.tasks;
-    let q = t.queue;
-    let e = t.ecbs;
-    let s = t.storage;
-    let a = sizes_good(f, e);
-    let b = tasks_good(f);
-    let d = queue_good(q, f);
-    let g = ecbs_good(e, f);
-    let h = areas_good(s, f);
+    let a = sizes_good(t.tasks, t.ecbs);
+    let b = tasks_good(t.tasks);
+    let d = queue_good(t.queue, t.tasks);
+    let g = ecbs_good(t.ecbs, t.tasks);
+    let h = areas_good(t.storage, t.tasks);
     a & ((t.code == 0) & (b & (d & (g & h))))
 }
 
@@ -107,16 +103,12 @@ fn over_good(t: AllTables) -> bool
     requires { ⌜ (t .queue .count ≤ mostEntries) × (t .storage .count ≤ mostAreas) ⌝ }
     ensures { λ r. ⌜ r ≡ overGood (stepOf t) ⌝ }
 {
-    let f = t.tasks;
-    let q = t.queue;
-    let e = t.ecbs;
-    let s = t.storage;
-    let a = sizes_good(f, e);
+    let a = sizes_good(t.tasks, t.ecbs);
     let b = Task::code_good(t.code);
-    let d = tasks::sound::all_zero(f);
-    let g = no_entry(q);
-    let h = ecbs::all_zero(e);
-    let i = no_area(s);
+    let d = tasks::sound::all_zero(t.tasks);
+    let g = no_entry(t.queue);
+    let h = ecbs::all_zero(t.ecbs);
+    let i = no_area(t.storage);
     a & (b & (d & (g & (h & i))))
 }
 
@@ -125,12 +117,10 @@ fn over_good(t: AllTables) -> bool
 pub fn sound(t: AllTables) -> bool
     ensures { λ r. ⌜ r ≡ soundTables t ⌝ }
 {
-    let q = t.queue;
-    if !queue::packed(q) {
+    if !queue::packed(t.queue) {
         return false;
     }
-    let s = t.storage;
-    if !storage::packed(s) {
+    if !storage::packed(t.storage) {
         return false;
     }
     if t.over {

@@ -21,17 +21,6 @@ module _ (ts : List Task) (n : ℕ) (x : Task) (e : x ≡ place ts n) where
   use-of b u = ap inUse (sym e) ∙ u
 
 module _ (ts : List Task) (c n : ℕ) (x : Task) (e : x ≡ place ts n) where
-  pub chain-free : (steps : ℕ) → isFree (x .condition) ≡ true → false ≡ chain steps ts (only c) n
-  unfolding chain
-  chain-free zero u = refl
-  chain-free (suc steps) u = rw (use-of ts n x e false (ap not u))
-
-  pub chain-found : (steps : ℕ) → 0 < steps → isFree (x .condition) ≡ false → eqb n c ≡ true
-      → true ≡ chain steps ts (only c) n
-  unfolding chain
-  chain-found zero h u t = absurd (omega arith)
-  chain-found (suc steps) h u t = rw (use-of ts n x e true (ap not u), t)
-
   pub chain-next : (steps : ℕ) → 0 < steps → isFree (x .condition) ≡ false → eqb n c ≡ false
       → chain (steps - 1) ts (only c) (x .mother .0) ≡ chain steps ts (only c) n
   unfolding chain mother
@@ -46,9 +35,6 @@ module _ (ts : List Task) (c n : ℕ) (x : Task) (e : x ≡ place ts n) where
 pub place-over : {B : Type 0} (f : Task → B) (ts : List Task) (n : ℕ) → length (map f ts) ≡ highestTask
     → highestTask < n → place ts n ≡ noTask
 place-over f ts n e h = place-past ts n (omega (arith, length-map ts f))
-
-pub chain-none : (ts : List Task) (c n steps : ℕ) → place ts n ≡ noTask → false ≡ chain steps ts (only c) n
-chain-none ts c n steps e = chain-free ts c n noTask (sym e) steps refl
 
 pub chain-done : (steps : ℕ) (ts : List Task) (test : ℕ → Bool) (n : ℕ) → steps ≤ 0 → false ≡ chain steps ts test n
 unfolding chain

@@ -8,7 +8,6 @@ use Rattle.tasks.proofs.at.Reads as at
 use Rattle.tasks.proofs.is_live.Reads as is-live
 use Rattle.tasks.proofs.in_use.Reads as in-use
 use Rattle.tasks.proofs.with_place.Reads as with-place
-use Rattle.tasks.proofs.is_below.Reads as is-below
 use Rattle.tasks.proofs.direct.is_subtask.Reads as is-subtask
 use Rattle.tasks.proofs.direct.has_subtasks.Reads as has-subtasks
 use Rattle.tasks.proofs.sound.ecb_good.Reads as ecb-good
@@ -42,9 +41,6 @@ in-use-once k a x y e d p q = p ∙ sym q
 
 pub with-place-once : Once with-place.Post
 with-place-once k a x y e d p q = p ∙ sym q
-
-pub is-below-once : Once is-below.Post
-is-below-once k a x y e d p q = p ∙ sym q
 
 pub is-subtask-once : Once is-subtask.Post
 is-subtask-once k a x y e d p q = p ∙ sym q

@@ -9,7 +9,7 @@ use kinds::TaskNumber;
 ghost use mathlib.Core.Path.{_≡_};
 ghost use Prim.Native.Nat.{_≤_};
 ghost use Rattle.kinds.specs.Limits.{lowestTask, highestTask};
-ghost use Rattle.rules.specs.Family.{place, live, withPlace, below};
+ghost use Rattle.rules.specs.Family.{place, live, withPlace};
 ghost use Rattle.laws.specs.Wiping.{inUse};
 ghost use Rattle.tasks.specs.TaskTables.{taskTableOf, nobody};
 
@@ -67,32 +67,4 @@ pub fn with_place(f: TaskTable, n: TaskNumber, x: Task) -> TaskTable
     let mut g = f;
     g.places[i] = x;
     g
-}
-
-// Task n is in use and is c or below c. A chain without repetition has at most as many tasks as there are places.
-// The places are read here, so that the table is not copied for each task of the chain.
-pub fn is_below(f: TaskTable, c: TaskNumber, n: TaskNumber) -> bool
-    ensures { λ r. ⌜ r ≡ below (f .places) (c .0) (n .0) ⌝ }
-{
-    let mut a = n.0;
-    let mut left = TaskNumber::HIGHEST;
-    while 0 < left {
-        if a == 0 {
-            return false;
-        }
-        if TaskNumber::HIGHEST < a {
-            return false;
-        }
-        let x = f.places[(a - 1) as usize];
-        let k = x.condition;
-        if k.is_free() {
-            return false;
-        }
-        if a == c.0 {
-            return true;
-        }
-        a = x.mother.0;
-        left -= 1;
-    }
-    false
 }

@@ -49,7 +49,7 @@ returns-2 c =
 
 returns-3 : tie.Need-returns-3
 returns-3 c =
-    let w = c .before .before .before .before .before .before in
+    let w = c .before .before .before .before .before in
     let i = w .before .before in
     let a = i .before .before .args in
     gate-is (a .t) (gateFor (a .who)) _ (sym (i .before .sound .ensures) ∙ not-false _ (i .if1 .left))

@@ -8,7 +8,7 @@ use Rattle.lists.specs.Arrays.{within, mapped-length}
 use Rattle.lists.specs.Loops.{All, all-start, all-stops, all-goes-on, all-over}
 use Rattle.kinds.specs.Limits.{highestTask}
 use Rattle.rules.specs.SoundAreas.{areaOwnerGood, areaOwnersGood}
-use Rattle.between.specs.Owners.{good-at}
+use Rattle.between.specs.Places.{good-at}
 use Rattle.between.proofs.owners.owners_good.Statement.{statement}
 use Rattle.between.proofs.owners.owners_good.Tie as tie
 
@@ -29,8 +29,8 @@ mul-a c = omega arith
 element-copy-out-a : tie.Need-element-copy-out-a Inv-loop μ-loop
 element-copy-out-a c = omega arith
 
-slot-requires : tie.Need-slot-requires Inv-loop μ-loop
-slot-requires c κs = search needs
+place-index-requires : tie.Need-place-index-requires Inv-loop μ-loop
+place-index-requires c κs = search needs
 
 mul-x : tie.Need-mul-x Inv-loop μ-loop
 mul-x c = omega arith
@@ -47,7 +47,7 @@ returns c =
     let b = c .before .before .before in
     let l = b .before .before .before .before .loop .inv in
     all-stops (l .3) (omega arith) (omega arith) _
-    (c .before .owner-good .ensures ∙ good-at _ _ _ (l .2) (b .slot .ensures .1)) (c .if1 .taken)
+    (c .before .owner-good .ensures ∙ good-at _ _ _ (l .2) (b .place-index .ensures .1)) (c .if1 .taken)
 
 add-i : tie.Need-add-i Inv-loop μ-loop
 add-i c = omega arith
@@ -63,7 +63,7 @@ loop-again c =
       omega arith,
       omega arith,
       all-goes-on (l .3) (omega arith) (omega arith) _
-          (c .before .owner-good .ensures ∙ good-at _ _ _ (l .2) (b .slot .ensures .1)) (c .if1 .left),
+          (c .before .owner-good .ensures ∙ good-at _ _ _ (l .2) (b .place-index .ensures .1)) (c .if1 .left),
     )
 
 returns-2 : tie.Need-returns-2 Inv-loop μ-loop
@@ -72,5 +72,5 @@ returns-2 c = all-over (c .before .loop .inv .3) (omega arith)
 
 pub owners-good-spec : {M : Type 1} → statement M
 owners-good-spec =
-    tie.close (tie.spec Inv-loop μ-loop loop-holds mul-a element-copy-out-a slot-requires mul-x element-copy-out-x
-    owner-good-requires returns add-i loop-less loop-again returns-2)
+    tie.close (tie.spec Inv-loop μ-loop loop-holds mul-a element-copy-out-a place-index-requires mul-x
+    element-copy-out-x owner-good-requires returns add-i loop-less loop-again returns-2)

@@ -28,8 +28,8 @@ same-length c = omega arith
 returns : tie.Need-returns Inv-loop μ-loop
 returns c = search needs
 
-long-requires : tie.Need-long-requires Inv-loop μ-loop
-long-requires c κs = omega arith
+passed-requires : tie.Need-passed-requires Inv-loop μ-loop
+passed-requires c κs = omega arith
 
 same-length-2 : tie.Need-same-length-2 Inv-loop μ-loop
 same-length-2 c = omega arith
@@ -40,11 +40,11 @@ returns-2 c = search needs
 line-end-requires : tie.Need-line-end-requires Inv-loop μ-loop
 line-end-requires c κs = omega arith
 
-add-long : tie.Need-add-long Inv-loop μ-loop
-add-long c = omega arith
+add-passed : tie.Need-add-passed Inv-loop μ-loop
+add-passed c = omega arith
 
-long-requires-2 : tie.Need-long-requires-2 Inv-loop μ-loop
-long-requires-2 c κs = omega arith
+passed-requires-2 : tie.Need-passed-requires-2 Inv-loop μ-loop
+passed-requires-2 c κs = omega arith
 
 same-length-3 : tie.Need-same-length-3 Inv-loop μ-loop
 same-length-3 c = omega arith
@@ -61,8 +61,8 @@ loop-less c = omega arith
 loop-again : tie.Need-loop-again Inv-loop μ-loop
 loop-again c = omega arith
 
-long-requires-3 : tie.Need-long-requires-3 Inv-loop μ-loop
-long-requires-3 c κs = omega arith
+passed-requires-3 : tie.Need-passed-requires-3 Inv-loop μ-loop
+passed-requires-3 c κs = omega arith
 
 same-length-4 : tie.Need-same-length-4 Inv-loop μ-loop
 same-length-4 c = omega arith
@@ -73,5 +73,5 @@ returns-4 c = search needs
 pub rest-of-long-spec : {M : Type 1} → statement M
 rest-of-long-spec =
     tie.close (tie.spec Inv-loop μ-loop loop-holds read-some-requires no-line-requires same-length returns
-    long-requires same-length-2 returns-2 line-end-requires add-long long-requires-2 same-length-3 returns-3
-    sub-turns loop-less loop-again long-requires-3 same-length-4 returns-4)
+    passed-requires same-length-2 returns-2 line-end-requires add-passed passed-requires-2 same-length-3 returns-3
+    sub-turns loop-less loop-again passed-requires-3 same-length-4 returns-4)

@@ -1,6 +1,6 @@
 -- What is not yet taken is within the block, which keeps its length (invariant); lines left to number fall (measure).
-use Prim.Native.Nat.{_≤_, _-_}
-use mathlib.Core.Path.{_≡_, refl, sym}
+use Prim.Native.Nat.{_≤_, _+_, _-_}
+use mathlib.Core.Path.{_≡_, refl}
 use native.Mathlib.Omega.{arith}
 use borrow.Author.Needs.{needs}
 use lib.ListN.{length, length-take}
@@ -14,25 +14,22 @@ Inv-loop block₀ out₀ tables₀ s₀ at₀ number₀ block out tables s at nu
 
 abbrev μ-loop : tie.MeasureT-loop
 μ-loop block₀ out₀ tables₀ s₀ at₀ number₀ block out tables s at number =
-    highestLine - number
+    highestLine + 1 - number
 
 start-requires : tie.Need-start-requires Inv-loop μ-loop
 start-requires c κs = search needs
 
-no-line-requires : tie.Need-no-line-requires Inv-loop μ-loop
-no-line-requires c κs = search needs
+passed-requires : tie.Need-passed-requires Inv-loop μ-loop
+passed-requires c κs = omega arith
 
 loop-holds : tie.Need-loop-holds Inv-loop μ-loop
 loop-holds c = (refl, omega arith, omega arith)
 
 slice-aggregate-line : tie.Need-slice-aggregate-line Inv-loop μ-loop
-slice-aggregate-line c = sym (c .before .before .before .loop .inv .0)
+slice-aggregate-line c = search needs
 
 line-requires : tie.Need-line-requires Inv-loop μ-loop
 line-requires c κs = omega arith
-
-add-number : tie.Need-add-number Inv-loop μ-loop
-add-number c = omega arith
 
 slice-aggregate-read : tie.Need-slice-aggregate-read Inv-loop μ-loop
 slice-aggregate-read c = search needs
@@ -45,12 +42,6 @@ enum-known-what c = search needs
 
 say-requires : tie.Need-say-requires Inv-loop μ-loop
 say-requires c κs = search needs
-
-loop-less : tie.Need-loop-less Inv-loop μ-loop
-loop-less c = omega arith
-
-loop-again : tie.Need-loop-again Inv-loop μ-loop
-loop-again c = omega arith
 
 enum-known-what-2 : tie.Need-enum-known-what-2 Inv-loop μ-loop
 enum-known-what-2 c = search needs
@@ -65,44 +56,40 @@ serve-requires : tie.Need-serve-requires Inv-loop μ-loop
 serve-requires c κs = search needs
 
 answer-with-requires : tie.Need-answer-with-requires Inv-loop μ-loop
-answer-with-requires c κs =
-    let b = c .before .before .before .before .before in
-    omega (arith, b .before .before .before .before .read .ensures)
-
-loop-less-2 : tie.Need-loop-less-2 Inv-loop μ-loop
-loop-less-2 c =
-    let b = c .before .before .before .before .before .before .before .before .before .before in
-    omega (arith, b .before .before .before .before .before .before .before .before .loop-test .taken)
-
-loop-again-2 : tie.Need-loop-again-2 Inv-loop μ-loop
-loop-again-2 c = omega arith
+answer-with-requires c κs = omega arith
 
 enum-known-what-3 : tie.Need-enum-known-what-3 Inv-loop μ-loop
 enum-known-what-3 c = search needs
 
-set-requires : tie.Need-set-requires Inv-loop μ-loop
-set-requires c κs = search needs
+fresh-requires : tie.Need-fresh-requires Inv-loop μ-loop
+fresh-requires c κs = search needs
 
-say-requires-2 : tie.Need-say-requires-2 Inv-loop μ-loop
-say-requires-2 c κs = search needs
-
-loop-less-3 : tie.Need-loop-less-3 Inv-loop μ-loop
-loop-less-3 c = omega arith
-
-loop-again-3 : tie.Need-loop-again-3 Inv-loop μ-loop
-loop-again-3 c = omega arith
+answer-requires : tie.Need-answer-requires Inv-loop μ-loop
+answer-requires c κs = search needs
 
 enum-known-what-4 : tie.Need-enum-known-what-4 Inv-loop μ-loop
 enum-known-what-4 c = search needs
 
+poked-requires : tie.Need-poked-requires Inv-loop μ-loop
+poked-requires c κs = search needs
+
+say-requires-2 : tie.Need-say-requires-2 Inv-loop μ-loop
+say-requires-2 c κs = search needs
+
+enum-known-what-5 : tie.Need-enum-known-what-5 Inv-loop μ-loop
+enum-known-what-5 c = search needs
+
 put-requires : tie.Need-put-requires Inv-loop μ-loop
 put-requires c κs = search needs
 
-loop-less-4 : tie.Need-loop-less-4 Inv-loop μ-loop
-loop-less-4 c = omega arith
+add-number : tie.Need-add-number Inv-loop μ-loop
+add-number c = omega arith
 
-loop-again-4 : tie.Need-loop-again-4 Inv-loop μ-loop
-loop-again-4 c = omega arith
+loop-less : tie.Need-loop-less Inv-loop μ-loop
+loop-less c = omega arith
+
+loop-again : tie.Need-loop-again Inv-loop μ-loop
+loop-again c = omega arith
 
 flush-requires : tie.Need-flush-requires Inv-loop μ-loop
 flush-requires c κs = search needs
@@ -112,8 +99,8 @@ returns c = search needs
 
 pub run-spec : {M : Type 1} → statement M
 run-spec =
-    tie.close (tie.spec Inv-loop μ-loop start-requires no-line-requires loop-holds slice-aggregate-line
-    line-requires add-number slice-aggregate-read read-requires enum-known-what say-requires loop-less loop-again
-    enum-known-what-2 array-borrow-prefix-codes slice-aggregate-serve serve-requires answer-with-requires
-    loop-less-2 loop-again-2 enum-known-what-3 set-requires say-requires-2 loop-less-3 loop-again-3
-    enum-known-what-4 put-requires loop-less-4 loop-again-4 flush-requires returns)
+    tie.close (tie.spec Inv-loop μ-loop start-requires passed-requires loop-holds slice-aggregate-line line-requires
+    slice-aggregate-read read-requires enum-known-what say-requires enum-known-what-2 array-borrow-prefix-codes
+    slice-aggregate-serve serve-requires answer-with-requires enum-known-what-3 fresh-requires answer-requires
+    enum-known-what-4 poked-requires say-requires-2 enum-known-what-5 put-requires add-number loop-less loop-again
+    flush-requires returns)

@@ -4,8 +4,9 @@ use mathlib.Core.Path.{_≡_}
 use native.Mathlib.Omega.{arith}
 use borrow.Author.Needs.{needs}
 use lib.ListN.{length}
+use Rattle.lists.specs.Pick.{test-failed-not}
 use Rattle.kinds.specs.Limits.{highestTask}
-use Rattle.rings.specs.Ways.{joinedBy, Filled, allWays, joined-next, ways-are}
+use Rattle.rings.specs.Ways.{joinedBy, Filled, allWays, joined-none, joined-next, ways-are}
 use Rattle.rings.proofs.ways.joined.Statement.{statement}
 use Rattle.rings.proofs.ways.joined.Tie as tie
 
@@ -15,6 +16,13 @@ Inv-loop k m r₀ n₀ r n =
 
 abbrev μ-loop : tie.MeasureT-loop
 μ-loop k m r₀ n₀ r n = allWays - n
+
+leads-on-requires : tie.Need-leads-on-requires Inv-loop μ-loop
+leads-on-requires c κs = search needs
+
+returns : tie.Need-returns Inv-loop μ-loop
+returns c =
+    joined-none _ _ (search needs) (test-failed-not _ _ (c .before .leads-on .ensures) (c .if1 .taken))
 
 loop-holds : tie.Need-loop-holds Inv-loop μ-loop
 loop-holds c =
@@ -54,16 +62,17 @@ loop-again : tie.Need-loop-again Inv-loop μ-loop
 loop-again c =
     let b = c .before .before .before .before in
     let l = b .loop in
-    let a = b .before .args in
+    let a = b .before .before .before .args in
     (omega arith, omega arith, omega arith, joined-next (a .t1) (l .r) (a .k) (l .n) (omega arith) (l .inv .3))
 
-returns : tie.Need-returns Inv-loop μ-loop
-returns c =
+returns-2 : tie.Need-returns-2 Inv-loop μ-loop
+returns-2 c =
     let l = c .before .loop in
-    let a = c .before .before .args in
+    let a = c .before .before .before .before .args in
     ways-are (joinedBy (a .t1) (a .k)) (l .n) (l .r) (omega arith) (l .inv .3)
 
 pub joined-spec : {M : Type 1} → statement M
 joined-spec =
-    tie.close (tie.spec Inv-loop μ-loop loop-holds mul-row element-copy-out-straight add-first element-copy-out-first
-    mul-second add-second element-copy-out-second element-write-r add-n loop-less loop-again returns)
+    tie.close (tie.spec Inv-loop μ-loop leads-on-requires returns loop-holds mul-row element-copy-out-straight
+    add-first element-copy-out-first mul-second add-second element-copy-out-second element-write-r add-n loop-less
+    loop-again returns-2)

@@ -24,7 +24,7 @@ returns-2 c = search chosen depth 12
 
 over-good-requires : tie.Need-over-good-requires
 over-good-requires c κs =
-    let b = c .before .before .before .before in
+    let b = c .before .before .before in
     let h = test-held-not _ _ (b .before .packed .ensures) (b .if1 .left) in
     let k = test-held-not _ _ (c .before .before .packed2 .ensures) (c .before .if2 .left) in
     (queue-kept _ h .room, areas-kept _ k .room)
@@ -35,7 +35,7 @@ returns-3 c = search chosen depth 12
 
 running-good-requires : tie.Need-running-good-requires
 running-good-requires c κs =
-    let b = c .before .before .before .before in
+    let b = c .before .before .before in
     let h = test-held-not _ _ (b .before .packed .ensures) (b .if1 .left) in
     let k = test-held-not _ _ (c .before .before .packed2 .ensures) (c .before .if2 .left) in
     (queue-kept _ h .room, areas-kept _ k .room)

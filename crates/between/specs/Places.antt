@@ -1,4 +1,4 @@
--- The rule on an area's owner, asked of the owner's place.
+-- What rules ask of a task, asked of its place.
 use mathlib.Core.Path.{_≡_, refl, sym, ap, _∙_}
 use mathlib.Core.Bool.{Bool, true, false, _&&_}
 use mathlib.Core.List.{List}
@@ -17,12 +17,16 @@ use Rattle.rules.specs.Family.{live}
 use Rattle.rules.specs.SoundAreas.{areaOwnerGood}
 use Rattle.laws.specs.Places.{place-none, place-past, place-at}
 
--- x is the place of a's owner, if the owner's number is in range
+-- task n is live, going by x at its place
+abbrev pub liveBy : ℕ → Task → Bool
+liveBy n x = taskGood n && isLive (x .condition)
+
+-- area a is the step's, or its owner is live, going by x at the owner's place
 abbrev pub goodBy : Area → Task → Bool
-goodBy a x = pick (eqb (a .subpool) 0) (eqb (a .owner .0) 0) (taskGood (a .owner .0) && isLive (x .condition))
+goodBy a x = pick (eqb (a .subpool) 0) (eqb (a .owner .0) 0) (liveBy (a .owner .0) x)
 
 module _ (ts : List Task) (long : length ts ≡ highestTask) (n j : ℕ) (at : n ≤ highestTask → j ≡ n - lowestTask) where
-  live-at : (taskGood n && isLive (getD ts j noTask .condition)) ≡ live ts n
+  pub live-at : liveBy n (getD ts j noTask) ≡ live ts n
   unfolding between pick
   live-at = one (ltb n lowestTask) (leb n highestTask) refl refl
     where

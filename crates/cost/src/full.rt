@@ -22,7 +22,7 @@ const PRIORITY: u8 = Task::HIGHEST_PRIORITY as u8;
 const LENGTH: u16 = Name::LONGEST as u16;
 
 // Every task place taken, by daughters of task 1.
-fn full_family() -> TaskTable {
+fn full_tasks() -> TaskTable {
     let mut f = tasks::empty();
     let mut i: usize = 0;
     while i < TaskNumber::PLACES {
@@ -83,7 +83,7 @@ fn full_storage() -> Storage {
 }
 
 fn full_tables() -> AllTables {
-    let f = full_family();
+    let f = full_tasks();
     let q = full_queue();
     let e = ecbs::empty();
     let s = full_storage();

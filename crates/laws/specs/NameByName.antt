@@ -15,7 +15,6 @@ use Rattle.kinds.specs.Tasks.{withCondition}
 use Rattle.kinds.specs.Replies.Besides.{NoValue}
 use Rattle.kinds.specs.declared.numbers.TaskNumber.{TaskNumber}
 use Rattle.kinds.specs.declared.requests.Ret.the-variants.{Have}
-use Rattle.kinds.specs.declared.tasks.Task.{Task}
 use Rattle.kinds.specs.declared.tasks.Condition.the-variants.{ResourceWait}
 use Rattle.kinds.specs.declared.replies.Gate.the-variants.{Open}
 use Rattle.kinds.specs.declared.replies.Verdict.the-variants.{Go}
@@ -33,13 +32,12 @@ use Rattle.rules.specs.Sound.{soundStep}
 use Rattle.rules.specs.Serve.{Asked, serviceOf, serveOf}
 use Rattle.laws.specs.Running.{Running, running-parts}
 use Rattle.laws.specs.Failing.{Sound}
-use Rattle.laws.specs.Chains.{used-pos, used-within}
-use Rattle.laws.specs.Admitted.{open-running, open-used, open-ready}
+use Rattle.laws.specs.Admitted.{open-running}
 use Rattle.laws.specs.InRange.{enq-names}
 use Rattle.laws.specs.Passed.{enq-passed}
-use Rattle.laws.specs.Queueing.{tail-waits, tail-none}
-use Rattle.laws.specs.ToQueue.{to-queue-distinct, zeroCoded, have-zero}
-use Rattle.laws.specs.KeptQueue.{good-names, coded-tables}
+use Rattle.laws.specs.Queueing.{tail-none}
+use Rattle.laws.specs.ToQueue.{zeroCoded, have-zero}
+use Rattle.laws.specs.KeptQueue.{coded-tables, tail-leaves}
 use Rattle.laws.specs.SystemNames.{enqAsked}
 
 -- 105, under HAVE: some name is one that the caller has no entry for, and these names are more than the free entries
@@ -123,12 +121,7 @@ module _ (s : Step) (h : Sound s) (c : TaskNumber) (o : gateOf s c ≡ Open) (l 
 
   tail-is : enqTail Have s (c .0) l ≡ stepWith s c (toQueue Have (s .queue) (c .0) l)
   tail-is =
-      let k = toQueue Have (s .queue) (c .0) l in
-      let u = open-used s c o in
-      let good = enq-names Have l (enq-passed (s .queue) c Have l (length area) g .good) in
-      ap (λ (ts : List Task). withQueue (withTasks s ts) (withTail (s .queue) (c .0) k))
-      (tail-waits s run (c .0) (used-pos (s .tasks) (c .0) u) (used-within (s .tasks) (c .0) u) (open-ready s c o) k
-      (to-queue-distinct Have (s .queue) (c .0) l (good-names l good .1)) _ refl)
+      tail-leaves s run c o l (enq-names Have l (enq-passed (s .queue) c Have l (length area) g .good)) Have _ refl
 
   pub name-by-name : NameByName s c l area (serveOf s asked)
   unfolding enqDone enqWritten enqCode pick

@@ -63,11 +63,12 @@ module _ (ret : Ret) (q : List Entry) (c : ℕ) (l : Names) where
 
 -- THE CALLER HAS NO ENTRY FOR THEM
 
--- what a code that is 0 says
-zero-eight : (a b : Bool) → eqb 0 (pick a 8 (pick b 0 4)) ≡ true → not a ≡ true
+-- what a code that is 0 says under USE
+zero-use : (a b : Bool) → eqb 0 (pick a 8 (pick b 0 4)) ≡ true → (not a ≡ true) × (b ≡ true)
 unfolding pick
-zero-eight true b h = absurd (false≢true h)
-zero-eight false b h = refl
+zero-use true b h = absurd (false≢true h)
+zero-use false true h = (refl, refl)
+zero-use false false h = absurd (false≢true h)
 
 -- under HAVE the code is 0 exactly where the caller has no entry
 zero-have : (a : Bool) → eqb 0 (pick a 8 0) ≡ not a
@@ -76,11 +77,20 @@ zero-have true = refl
 zero-have false = refl
 
 module _ (q : List Entry) (c : ℕ) where
-  use-fresh : (l : List Ask) → allZero (map (enqCode Use q c) l) ≡ true → every (fresh q c) l ≡ true
+  -- what a code that is 0 says of its name, codes that are all 0 say of each
+  pub zero-each : (ret : Ret) (p : Ask → Bool) → ((a : Ask) → eqb 0 (enqCode ret q c a) ≡ true → p a ≡ true)
+      → (l : List Ask) → allZero (map (enqCode ret q c) l) ≡ true → every p l ≡ true
+  zero-each ret p g l h =
+      every-gives (λ (a : Ask). eqb 0 (enqCode ret q c a)) p g l (sym (every-of (enqCode ret q c) (eqb 0) l) ∙ h)
+
+  -- under USE the caller has no entry for it, and it is available
+  pub use-zero : (l : List Ask) → allZero (map (enqCode Use q c) l) ≡ true
+      → (every (fresh q c) l ≡ true) × (every (available q) l ≡ true)
   unfolding enqCode
-  use-fresh l h =
-      every-gives (λ (a : Ask). eqb 0 (enqCode Use q c a)) (fresh q c)
-      (λ a e. zero-eight (hasEntry q c (a .name)) (available q a) e) l (sym (every-of (enqCode Use q c) (eqb 0) l) ∙ h)
+  use-zero l h = (
+    zero-each Use (fresh q c) (λ a e. zero-use (hasEntry q c (a .name)) (available q a) e .0) l h,
+    zero-each Use (available q) (λ a e. zero-use (hasEntry q c (a .name)) (available q a) e .1) l h,
+  )
 
   -- unless it is error 201
   pub to-queue-fresh : (ret : Ret) (l : Names) → duplicated ret q c l ≡ false
@@ -91,7 +101,7 @@ module _ (q : List Entry) (c : ℕ) where
   to-queue-fresh Use l d = one (allZero (enqCodes Use q c l)) refl
     where
       one : (b : Bool) → allZero (enqCodes Use q c l) ≡ b → every (fresh q c) (pick b (l .asks) []) ≡ true
-      one true e = use-fresh (l .asks) e
+      one true e = use-zero (l .asks) e .0
       one false e = refl
   to-queue-fresh Have l d = all-kept (fresh q c) (l .asks)
   to-queue-fresh Chng l d = refl

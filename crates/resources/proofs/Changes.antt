@@ -4,12 +4,10 @@ use mathlib.Core.Bool.{Bool, true, false, not, _&&_, false≢true, Bool·not-not
 use mathlib.Core.List.{List, [], _∷_, map, map-map}
 use Prim.Native.Nat.{ℕ, _+_, _≤_}
 use native.Mathlib.Omega.{arith}
-use lib.Dec.{eqb}
 use lib.ListN.{length, take, length-map}
 use borrow.Author.Tests.{ltb-false, not-false}
 use Rattle.lists.specs.Pick.{pick}
 use Rattle.lists.specs.Lists.{every, unskipped}
-use Rattle.lists.specs.Every.{every-gives, every-of}
 use Rattle.lists.specs.Packed.{stored-count}
 use Rattle.kinds.specs.Limits.{mostEntries}
 use Rattle.kinds.specs.declared.numbers.TaskNumber.{TaskNumber}
@@ -21,22 +19,19 @@ use Rattle.kinds.specs.declared.requests.Ret.{Ret}
 use Rattle.kinds.specs.declared.requests.Ret.the-variants.{None, Test, Use, Have, Chng}
 use Rattle.kinds.specs.declared.tasks.Task.{Task}
 use Rattle.rules.specs.Admission.{gateOf}
-use Rattle.rules.specs.Names.{Ask, Names, nameOf, namesOf, namesGood}
-use Rattle.rules.specs.Control.{Entry, hasEntry, available}
+use Rattle.rules.specs.Names.{Ask, Names, nameOf, namesOf}
+use Rattle.rules.specs.Control.{Entry, available}
 use Rattle.rules.specs.Codes.{allZero, writtenOn, tooShort}
 use Rattle.rules.specs.Steps.{Step, withTasks, withQueue}
-use Rattle.rules.specs.Enq.{enqCode, enqCodes, enqCodesDue, duplicated, toQueue, enqVerdict, withTail, madeExclusive}
-use Rattle.rules.specs.Enq.{enqTail, onlyIfZero, enqChange}
+use Rattle.rules.specs.Enq.{enqCode, enqCodes, enqCodesDue, duplicated, toQueue, enqVerdict, madeExclusive}
+use Rattle.rules.specs.Enq.{onlyIfZero, enqChange}
 use Rattle.rules.specs.Deq.{deqCode, deqCodes, deqCodesDue, unentered, deqVerdict}
 use Rattle.laws.specs.Running.{Running}
-use Rattle.laws.specs.Chains.{used-pos, used-within}
-use Rattle.laws.specs.Admitted.{open-ready, open-used}
 use Rattle.laws.specs.InRange.{enq-names}
-use Rattle.laws.specs.KeptQueue.{good-names, zero-sole}
+use Rattle.laws.specs.KeptQueue.{zero-sole, tail-leaves}
 use Rattle.laws.specs.Passed.{CodesFit, enq-passed}
-use Rattle.laws.specs.Queueing.{tail-waits}
 use Rattle.laws.specs.Changing.{chng-waits}
-use Rattle.laws.specs.ToQueue.{to-queue-distinct, to-queue-room}
+use Rattle.laws.specs.ToQueue.{to-queue-room, use-zero}
 use Rattle.queue.specs.Queues.{entriesIn, PackedEntries}
 use Rattle.queue.proofs.Views.{table}
 use Rattle.queue.specs.declared.Queue.{Queue}
@@ -170,37 +165,10 @@ module _ {ret : Ret} {q : List Entry} {c : ℕ} {l : Names} {looks : Looks} (u :
       → every (available q) (toQueue ret q c l) ≡ not w
   unless-free e = ap (every (available q)) (sym left-told) ∙ sym (Bool·not-not _) ∙ ap not (sym e)
 
--- under USE each name was available
-zero-free : (a b : Bool) → eqb 0 (pick a 8 (pick b 0 4)) ≡ true → b ≡ true
-unfolding pick
-zero-free true b e = absurd (false≢true e)
-zero-free false true e = refl
-zero-free false false e = absurd (false≢true e)
-
-use-free : (q : List Entry) (c : ℕ) (l : List Ask) → allZero (map (enqCode Use q c) l) ≡ true
-    → every (available q) l ≡ true
-unfolding enqCode
-use-free q c l h =
-    every-gives (λ (a : Ask). eqb 0 (enqCode Use q c a)) (available q)
-    (λ a e. zero-free (hasEntry q c (a .name)) (available q a) e) l (sym (every-of (enqCode Use q c) (eqb 0) l) ∙ h)
-
 -- THE COLUMN "THEN", of a step that runs and an admitted caller
 module _ (s : Step) (h : Running s) (c : TaskNumber) (o : gateOf s c ≡ Open) (l : Names) where
   abbrev left : Bool → List Entry → Step
   left w q = withQueue (withTasks s (tasksLeft (s .tasks) (c .0) w)) q
-
-  abbrev asks : Ret → List Ask
-  asks ret = toQueue ret (s .queue) (c .0) l
-
-  -- what is queued stands at the tail, and the caller waits unless each name is available
-  tailed : (ret : Ret) (w : Bool) → namesGood l ≡ true → every (available (s .queue)) (asks ret) ≡ not w
-      → enqTail ret s (c .0) l ≡ left w (withTail (s .queue) (c .0) (asks ret))
-  unfolding tasksLeft
-  tailed ret w g e =
-      let u = open-used s c o in
-      ap (λ (ts : List Task). withQueue (withTasks s ts) (withTail (s .queue) (c .0) (asks ret)))
-      (tail-waits s h (c .0) (used-pos (s .tasks) (c .0) u) (used-within (s .tasks) (c .0) u) (open-ready s c o)
-      (asks ret) (to-queue-distinct ret (s .queue) (c .0) l (good-names l g .1)) (not w) e)
 
   -- "only if every code is 0", and then too nobody begins to wait
   if-zero : (codes : List ℕ) (z w : Bool) (t : Step) (q : List Entry) → z ≡ allZero codes → w ≡ false
@@ -213,12 +181,12 @@ module _ (s : Step) (h : Running s) (c : TaskNumber) (o : gateOf s c ≡ Open) (
       → w ≡ callerWaits ret (s .queue) l looks
       → enqChange ret s (c .0) l ≡ left w (queueLeft ret (s .queue) (c .0) l (looks .zero))
   unfolding callerWaits queueLeft tasksLeft toQueue pick
-  enq-leaves None looks w u e = tailed None w (u .good) (unless-free u refl e)
+  enq-leaves None looks w u e = tail-leaves s h c o l (u .good) None (not w) (unless-free u refl e)
   enq-leaves Test looks w u e = rw e
   enq-leaves Use looks w u e =
       if-zero (enqCodes Use (s .queue) (c .0) l) (looks .zero) w _ _ (zero-told (s .queue) (c .0) u) e
-      (λ z. tailed Use false (u .good) (rw z (use-free (s .queue) (c .0) (l .asks) z)))
-  enq-leaves Have looks w u e = tailed Have w (u .good) (unless-free u refl e)
+      (λ z. tail-leaves s h c o l (u .good) Use true (rw z (use-zero (s .queue) (c .0) (l .asks) z .1)))
+  enq-leaves Have looks w u e = tail-leaves s h c o l (u .good) Have (not w) (unless-free u refl e)
   -- the caller alone owns what it makes exclusive
   enq-leaves Chng looks w u e =
       if-zero (enqCodes Chng (s .queue) (c .0) l) (looks .zero) w _ _ (zero-told (s .queue) (c .0) u) e

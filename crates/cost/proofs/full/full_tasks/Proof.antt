@@ -6,8 +6,8 @@ use borrow.Author.Needs.{needs}
 use lib.ListN.{length, length-set}
 use Rattle.lists.specs.Arrays.{mapped-length}
 use Rattle.kinds.specs.Limits.{highestTask}
-use Rattle.cost.proofs.full.full_family.Statement.{statement}
-use Rattle.cost.proofs.full.full_family.Tie as tie
+use Rattle.cost.proofs.full.full_tasks.Statement.{statement}
+use Rattle.cost.proofs.full.full_tasks.Tie as tie
 
 abbrev Inv-loop : tie.InvT-loop
 Inv-loop f₀ i₀ f i = (i ≤ highestTask) × (length (f .places) ≡ highestTask)
@@ -42,7 +42,7 @@ loop-again c = (omega arith, simp length-set (omega arith))
 returns : tie.Need-returns Inv-loop μ-loop
 returns c = search needs
 
-pub full-family-spec : {M : Type 1} → statement M
-full-family-spec =
+pub full-tasks-spec : {M : Type 1} → statement M
+full-tasks-spec =
     tie.close (tie.spec Inv-loop μ-loop empty-requires loop-holds task-requires mul-x element-set-from-x add-i
     loop-less loop-again returns)

@@ -1,6 +1,6 @@
 //! How tasks end.
 
-use crate::control::settle;
+use crate::control::requeue;
 use crate::numbers::TASKS;
 use crate::request::Answer;
 use crate::services::post::post_ecb;
@@ -18,6 +18,17 @@ fn strip(step: &mut Step, task: u32) {
     let place = &mut step.tasks[task as usize];
     place.rwait = 0;
     place.need = 0;
+}
+
+/// Make a change; where it takes entries away, the rest is packed and who waits is seen.  Until
+/// then the name area is as it was.
+fn then_packed<F: Fn(&mut Step)>(step: &mut Step, change: F) {
+    let entries = step.entry_count;
+    change(step);
+    if step.entry_count < entries {
+        let queue = step.queue();
+        requeue(step, &queue);
+    }
 }
 
 /// "A task's end ends its subtasks, each of which ends its own: all of these places,
@@ -38,8 +49,7 @@ fn free_with_below(step: &mut Step, task: u32) {
 
 /// DETACH: "an ended one is freed; a live one goes with all below it, nothing posted"
 pub fn detach(step: &mut Step, task: u32) {
-    free_with_below(step, task);
-    settle(step);
+    then_packed(step, |step| free_with_below(step, task));
 }
 
 /// END of a task without subtasks.  "If attached with an ECB, that ECB is posted with
@@ -48,8 +58,12 @@ pub fn detach(step: &mut Step, task: u32) {
 pub fn end(step: &mut Step, task: u32, code: u32) {
     if task == 1 {
         *step = Step::over(code);
-        return;
+    } else {
+        then_packed(step, |step| end_one(step, task, code));
     }
+}
+
+fn end_one(step: &mut Step, task: u32, code: u32) {
     debug_assert!(step.tasks[task as usize].state == LIVE);
     strip(step, task);
     let place = step.tasks[task as usize];
@@ -59,15 +73,18 @@ pub fn end(step: &mut Step, task: u32, code: u32) {
     } else {
         step.tasks[task as usize] = Task::NONE;
     }
-    settle(step);
 }
 
 /// ABEND without STEP: what is below goes; "The caller itself then ends as under END".
 pub fn abend(step: &mut Step, task: u32, code: u32) {
-    if task != 1 {
-        free_below(step, task);
+    if task == 1 {
+        *step = Step::over(code);
+        return;
     }
-    end(step, task, code);
+    then_packed(step, |step| {
+        free_below(step, task);
+        end_one(step, task, code);
+    });
 }
 
 /// Program errors "end the caller as ABEND without STEP would, with the error's number

@@ -8,7 +8,8 @@
 //! waiter apart from its wait bit".  The compared tables keep a task's condition as one
 //! of: free, ready, resource wait, ECB wait for n posts, ended; they keep an ECB of a task
 //! or none, and numbers of tasks and ECBs, priorities, posts and subpools in a byte, codes
-//! of the step and lengths of names in two.
+//! of the step and offsets in the name area in two.  An entry's name has no other field: its
+//! length and its two parts lie in the area.
 
 use crate::tables::{Area, Ecb, Entry, Task, ENDED, LIVE};
 
@@ -44,7 +45,7 @@ pub fn task(task: &Task) -> bool {
 }
 
 pub fn entry(entry: &Entry) -> bool {
-    flag(entry.excl) && byte(entry.task) && half(entry.name.length)
+    flag(entry.excl) && byte(entry.task) && half(entry.offset)
 }
 
 /// The waiter and the wait bit are one.

@@ -1,6 +1,7 @@
 //! A plain reference implementation of the services of document 01, and of sections 1 to 3 of
 //! document 02: the reports, the system's names, HAVE name by name.  Section 4 changes no answer:
-//! GETMAIN here tries each multiple of 8 in turn, so that a shorter search can be held to it.
+//! GETMAIN here tries each multiple of 8 in turn, so that a shorter search can be held to it.  Of
+//! section 5 the name area is here, with names as long as before.
 //!
 //!     reference                            answer the job script on standard input
 //!     reference quick                      the same with a short walk in GETMAIN, to be timed
@@ -15,6 +16,7 @@ mod coverage;
 mod ending;
 mod generate;
 mod held;
+mod name_area;
 mod names;
 mod numbers;
 mod poke;

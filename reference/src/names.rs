@@ -7,9 +7,9 @@ use crate::numbers::{MAJOR, MINOR};
 pub const SYSTEM: [u8; 3] = [0xe2, 0xe8, 0xe2];
 
 /// "A name is a major part of 8 bytes and a minor part of 1 to 44 bytes,
-/// compared with its length."  Bytes past the length are kept zero by the
-/// script reader; tables in which they are not zero are unsound, so that the
-/// derived comparison is the comparison of the used bytes and the length.
+/// compared with its length."  Bytes past the length are kept zero by all who
+/// make a name, so that the derived comparison is the comparison of the used
+/// bytes and the length.
 #[derive(Clone, Copy, PartialEq, Eq, Debug)]
 pub struct Name {
     pub major: [u8; MAJOR],
@@ -25,10 +25,9 @@ impl Name {
         1 <= self.length && self.length <= MINOR as u32
     }
 
-    /// Are the bytes past the length zero?
-    pub fn rest_is_zero(&self) -> bool {
-        let used = MINOR.min(self.length as usize);
-        self.minor[used..].iter().all(|byte| *byte == 0)
+    /// The bytes of the minor part; of one that is too long, those that are kept.
+    pub fn minor_bytes(&self) -> &[u8] {
+        &self.minor[..MINOR.min(self.length as usize)]
     }
 
     /// Is it one of "the system's names"?  The minor part has no say.

@@ -26,6 +26,8 @@ pub const LIST: usize = 16;
 pub const MAJOR: usize = 8;
 /// "a minor part of 1 to 44 bytes"
 pub const MINOR: usize = 44;
+/// "in a name area of 16,384 bytes" (document 02, section 5)
+pub const NAMES: usize = 16_384;
 /// Areas begin at "multiples of 8", lengths are "rounded up to 8".
 pub const GRAIN: u32 = 8;
 

@@ -1,25 +1,26 @@
 //! Poke lines: one raw field of the tables is overwritten.
 
 use crate::held;
-use crate::numbers::{AREAS, ECBS, ENTRIES, MAJOR, MINOR, TASKS};
+use crate::numbers::{AREAS, ECBS, ENTRIES, NAMES, TASKS};
 use crate::tables::{Area, Ecb, Entry, Step, Task};
-use crate::words::{major, minor, number, number_to};
+use crate::words::{bytes, major, minor, number, number_to, Bytes};
 
 pub const STEP_FIELDS: [&str; 2] = ["over", "code"];
 pub const TASK_FIELDS: [&str; 8] =
     ["state", "mother", "limit", "disp", "hasecb", "ecb", "rwait", "need"];
-pub const ENTRY_FIELDS: [&str; 3] = ["task", "excl", "length"];
+pub const ENTRY_FIELDS: [&str; 3] = ["task", "excl", "name"];
 pub const ECB_FIELDS: [&str; 4] = ["wait", "complete", "code", "waiter"];
 pub const AREA_FIELDS: [&str; 4] = ["address", "length", "subpool", "owner"];
 
-/// A readable poke: the place, the field's place in its list, the value.
+/// A readable poke: the place, the field's place in its list, the value.  `Gone` is one of a field
+/// that entries had before there was a name area.
 #[derive(Clone, Copy, Debug)]
 pub enum Poke {
     Step { field: usize, value: u32 },
     Task { place: usize, field: usize, value: u32 },
     Entry { place: usize, field: usize, value: u32 },
-    Major { place: usize, value: [u8; MAJOR] },
-    Minor { place: usize, value: [u8; MINOR] },
+    Gone,
+    Name { offset: usize, value: Bytes },
     Ecb { place: usize, field: usize, value: u32 },
     Area { place: usize, field: usize, value: u32 },
 }
@@ -44,6 +45,7 @@ pub fn read(words: &[&[u8]]) -> Option<Poke> {
             value: number(value)?,
         }),
         [b"entry", place, field, value] => read_entry(place_of(place, ENTRIES)?, field, value),
+        [b"name", offset, value] => read_name(place_of(offset, NAMES)?, value),
         [b"ecb", place, field, value] => Some(Poke::Ecb {
             place: place_of(place, ECBS as usize)?,
             field: field_of(field, &ECB_FIELDS)?,
@@ -60,12 +62,23 @@ pub fn read(words: &[&[u8]]) -> Option<Poke> {
 
 fn read_entry(place: usize, field: &[u8], value: &[u8]) -> Option<Poke> {
     match field {
-        b"major" => Some(Poke::Major { place, value: major(value)? }),
-        b"minor" => Some(Poke::Minor { place, value: minor(value)? }),
+        b"length" => number(value).map(|_| Poke::Gone),
+        b"major" => major(value).map(|_| Poke::Gone),
+        b"minor" => minor(value).map(|_| Poke::Gone),
         _ => {
             let field = field_of(field, &ENTRY_FIELDS)?;
             Some(Poke::Entry { place, field, value: number(value)? })
         }
+    }
+}
+
+/// "`poke name OFFSET HEX` (1 to 300 bytes within the area)"
+fn read_name(offset: usize, value: &[u8]) -> Option<Poke> {
+    let value = bytes(value)?;
+    if offset + value.all().len() <= NAMES {
+        Some(Poke::Name { offset, value })
+    } else {
+        None
     }
 }
 
@@ -91,9 +104,15 @@ pub fn apply(step: &mut Step, poke: Poke) -> bool {
             step.count_places();
             held
         }
-        Poke::Entry { place, .. } | Poke::Major { place, .. } | Poke::Minor { place, .. } => {
+        Poke::Gone => false,
+        Poke::Name { offset, value } => {
+            let bytes = value.all();
+            step.names[offset..offset + bytes.len()].copy_from_slice(bytes);
+            true
+        }
+        Poke::Entry { place, field, value } => {
             let mut entry = step.entries[place];
-            poke_entry(&mut entry, poke);
+            *entry_field(&mut entry, field) = value;
             let held = store(held::entry(&entry), &mut step.entries[place], entry);
             step.count_places();
             held
@@ -123,17 +142,6 @@ fn poke_step(step: &mut Step, field: usize, value: u32) -> bool {
     true
 }
 
-fn poke_entry(entry: &mut Entry, poke: Poke) {
-    match poke {
-        Poke::Major { value, .. } => entry.name.major = value,
-        Poke::Minor { value, .. } => entry.name.minor = value,
-        Poke::Entry { field: 0, value, .. } => entry.task = value,
-        Poke::Entry { field: 1, value, .. } => entry.excl = value,
-        Poke::Entry { value, .. } => entry.name.length = value,
-        _ => {}
-    }
-}
-
 fn task_field(task: &mut Task, field: usize) -> &mut u32 {
     match field {
         0 => &mut task.state,
@@ -144,6 +152,14 @@ fn task_field(task: &mut Task, field: usize) -> &mut u32 {
         5 => &mut task.ecb,
         6 => &mut task.rwait,
         _ => &mut task.need,
+    }
+}
+
+fn entry_field(entry: &mut Entry, field: usize) -> &mut u32 {
+    match field {
+        0 => &mut entry.task,
+        1 => &mut entry.excl,
+        _ => &mut entry.offset,
     }
 }
 

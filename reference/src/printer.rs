@@ -1,5 +1,6 @@
 //! What is written for a line.
 
+use crate::name_area::{used, NameArea};
 use crate::names::Name;
 use crate::reports::queues::Queued;
 use crate::reports::stuck::Stuck;
@@ -65,7 +66,7 @@ fn row(out: &mut Vec<u8>, word: &str, numbers: &[u32]) {
 fn name(out: &mut Vec<u8>, name: &Name) {
     hex(out, &name.major);
     out.push(b'.');
-    hex(out, &name.minor[..name.length as usize]);
+    hex(out, name.minor_bytes());
 }
 
 /// `stuck TASK MAJOR.MINOR PARTNER`
@@ -86,6 +87,16 @@ pub fn queued(out: &mut Vec<u8>, item: &Queued) {
     out.extend_from_slice(state);
 }
 
+/// "the name area up to its last byte not zero; no line if all are zero"
+fn names(out: &mut Vec<u8>, area: &NameArea) {
+    let used = used(area);
+    if used > 0 {
+        out.extend_from_slice(b"names ");
+        hex(out, &area[..used]);
+        out.push(b'\n');
+    }
+}
+
 /// "Only places with at least one field not zero are printed, in this order, each sort
 /// by rising index; `.` ends it."
 pub fn dump(out: &mut Vec<u8>, step: &Step) {
@@ -98,14 +109,10 @@ pub fn dump(out: &mut Vec<u8>, step: &Step) {
         out.push(b'\n');
     }
     for (i, e) in step.entries.iter().enumerate().filter(|(_, e)| **e != Entry::NONE) {
-        row(out, "entry", &[i as u32, e.task, e.excl]);
-        out.push(b' ');
-        hex(out, &e.name.major);
-        row(out, "", &[e.name.length]);
-        out.push(b' ');
-        hex(out, &e.name.minor);
+        row(out, "entry", &[i as u32, e.task, e.excl, e.offset]);
         out.push(b'\n');
     }
+    names(out, &step.names);
     for (n, e) in step.ecbs.iter().enumerate().filter(|(_, e)| **e != Ecb::NONE) {
         row(out, "ecb", &[n as u32, e.wait, e.complete, e.code, e.waiter]);
         out.push(b'\n');

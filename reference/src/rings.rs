@@ -4,7 +4,7 @@ use std::collections::VecDeque;
 
 use crate::control::clash;
 use crate::numbers::{is_task, TASKS};
-use crate::tables::Entry;
+use crate::tables::Named;
 
 /// A yes or no for each task number; place 0 is nobody's.
 pub type Marks = [bool; TASKS as usize + 1];
@@ -19,7 +19,7 @@ impl Waits {
     /// earlier one for that name, one of the two being exclusive".  An entry with such an
     /// earlier one lacks control, so that needs no test of its own.  Tables may hold any
     /// number, so an entry may be of no task.
-    pub fn among(entries: &[Entry]) -> Waits {
+    pub fn among(entries: &[Named]) -> Waits {
         let mut waits = Waits { rows: [[false; TASKS as usize + 1]; TASKS as usize + 1] };
         for (place, entry) in entries.iter().enumerate() {
             for earlier in entries[..place].iter().filter(|earlier| clash(earlier, entry)) {

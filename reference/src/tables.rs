@@ -2,8 +2,9 @@
 
 use std::ops::RangeInclusive;
 
+use crate::name_area::{name_at, put, NameArea};
 use crate::names::Name;
-use crate::numbers::{is_task, AREAS, ECBS, ENTRIES, PAGE, PRIORITY, TASKS};
+use crate::numbers::{is_task, AREAS, ECBS, ENTRIES, NAMES, PAGE, PRIORITY, TASKS};
 
 pub const FREE: u32 = 0;
 pub const LIVE: u32 = 1;
@@ -35,15 +36,24 @@ impl Task {
     }
 }
 
+/// An entry points to its name: this is where it begins in the name area.
 #[derive(Clone, Copy, PartialEq, Eq, Debug)]
 pub struct Entry {
     pub task: u32,
     pub excl: u32,
-    pub name: Name,
+    pub offset: u32,
 }
 
 impl Entry {
-    pub const NONE: Entry = Entry { task: 0, excl: 0, name: Name::NONE };
+    pub const NONE: Entry = Entry { task: 0, excl: 0, offset: 0 };
+}
+
+/// An entry with the name that it points to.
+#[derive(Clone, Copy, PartialEq, Eq, Debug)]
+pub struct Named {
+    pub task: u32,
+    pub excl: u32,
+    pub name: Name,
 }
 
 #[derive(Clone, Copy, PartialEq, Eq, Debug)]
@@ -102,6 +112,7 @@ pub struct Step {
     pub tasks: [Task; TASKS as usize + 1],
     pub entries: [Entry; ENTRIES],
     pub entry_count: usize,
+    pub names: NameArea,
     pub ecbs: [Ecb; ECBS as usize],
     pub areas: [Area; AREAS],
     pub area_count: usize,
@@ -116,6 +127,7 @@ impl Step {
             tasks: [Task::NONE; TASKS as usize + 1],
             entries: [Entry::NONE; ENTRIES],
             entry_count: 0,
+            names: [0; NAMES],
             ecbs: [Ecb::NONE; ECBS as usize],
             areas: [Area::NONE; AREAS],
             area_count: 0,
@@ -139,6 +151,38 @@ impl Step {
         &self.entries[..self.entry_count]
     }
 
+    /// The queue: the entries in their order, each with its name as the area has it.
+    pub fn queue(&self) -> Vec<Named> {
+        let named = |e: &Entry| Named {
+            task: e.task,
+            excl: e.excl,
+            name: name_at(&self.names, e.offset as usize),
+        };
+        self.used_entries().iter().map(named).collect()
+    }
+
+    /// Put a queue in the place of the one that there is, with a fresh name area.  "Each
+    /// different name is kept once, in a name area of 16,384 bytes, and entries point to it.
+    /// They stand packed, in the order of first entries; a name leaves with its last entry."
+    pub fn store_queue(&mut self, queue: &[Named]) {
+        self.entries = [Entry::NONE; ENTRIES];
+        self.names = [0; NAMES];
+        let mut end = 0;
+        for (i, &Named { task, excl, name }) in queue.iter().enumerate() {
+            let earlier = queue[..i].iter().position(|earlier| earlier.name == name);
+            let offset = match earlier {
+                Some(first) => self.entries[first].offset,
+                None => {
+                    let start = end;
+                    end = put(&mut self.names, start, &name);
+                    start as u32
+                }
+            };
+            self.entries[i] = Entry { task, excl, offset };
+        }
+        self.entry_count = queue.len();
+    }
+
     pub fn used_areas(&self) -> &[Area] {
         &self.areas[..self.area_count]
     }
@@ -158,7 +202,8 @@ impl Step {
         place.state != FREE && place.mother == mother
     }
 
-    /// Keep the entries that pass, packed in their order; the rest becomes zero.
+    /// Keep the entries that pass, packed in their order; the rest becomes zero.  The name area
+    /// is as it was, so that they still find their names.
     pub fn keep_entries<F: Fn(&Entry) -> bool>(&mut self, keep: F) {
         let mut kept = 0;
         for i in 0..self.entry_count {

@@ -110,6 +110,33 @@ pub fn minor(word: &[u8]) -> Option<[u8; MINOR]> {
     }
 }
 
+/// The most bytes that a poke of the name area has.
+pub const MOST_BYTES: usize = 300;
+
+/// So many bytes at the front of the room.
+#[derive(Clone, Copy, Debug)]
+pub struct Bytes {
+    room: [u8; MOST_BYTES],
+    count: usize,
+}
+
+impl Bytes {
+    pub fn all(&self) -> &[u8] {
+        &self.room[..self.count]
+    }
+}
+
+/// 1 to 300 bytes in hex.
+pub fn bytes(word: &[u8]) -> Option<Bytes> {
+    let mut room = [0; MOST_BYTES];
+    let count = hex(word, &mut room)?;
+    if 1 <= count && count <= MOST_BYTES {
+        Some(Bytes { room, count })
+    } else {
+        None
+    }
+}
+
 /// "16 hex digits (major), `.`, 0 to 600 hex digits, an even number (minor bytes), then
 /// optionally `/` and a number up to 300, the length."
 pub fn name(word: &[u8]) -> Option<Name> {

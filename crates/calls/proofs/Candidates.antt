@@ -22,7 +22,7 @@ use Rattle.services.specs.Kept.{stepOf, soundb, servedBy, answeredWith}
 use Rattle.services.specs.Serve.{servedOf}
 use Rattle.services.specs.declared.Tables.{Tables}
 use Rattle.services.specs.declared.Answer.{Answer}
-use Rattle.services.proofs.Glue.{sound-step}
+use Rattle.services.proofs.Names.{sound-step}
 use Rattle.calls.specs.Calls.{Call}
 use Rattle.calls.proofs.Runs.{promises}
 

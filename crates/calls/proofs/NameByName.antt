@@ -25,7 +25,7 @@ use Rattle.laws.specs.NameByName.{had, stepWith, NameByName, name-by-name, skip
 use Rattle.services.specs.Kept.{stepOf, tablesOf, saidWith, servedBy, soundb}
 use Rattle.services.specs.declared.Tables.{Tables}
 use Rattle.services.specs.declared.Answer.{Answer}
-use Rattle.services.proofs.Glue.{sound-step, sound-tables}
+use Rattle.services.proofs.Names.{sound-step, sound-tables}
 use Rattle.calls.specs.Calls.{Call}
 use Rattle.calls.proofs.Runs.{promises, as-ruled}
 

@@ -14,15 +14,15 @@ use Rattle.rules.specs.Serve.{Asked, serviceOf, serveOf}
 use Rattle.rules.specs.Reading.{Turn, nothing, oneAtATime}
 use Rattle.rules.specs.Reports.{stuckTasks, stuckReport}
 use Rattle.rules.specs.DemandThree.{Run, stop as ends, turn, turnOf, Fresh, Demand3}
-use Rattle.laws.specs.Served.{sound-served}
+use Rattle.laws.specs.Served.{sound-served, serve-sound}
 use Rattle.history.proofs.Demand.{demand-three}
 use Rattle.history.proofs.NobodyStuck.{nobody-stuck, nobody-stuck-report}
 use Rattle.services.specs.Kept.{stepOf, tablesOf, said, saidWith, servedBy, soundb, answered, answeredWith}
 use Rattle.services.specs.Serve.{servedOf}
 use Rattle.services.specs.declared.Tables.{Tables}
 use Rattle.services.specs.declared.Answer.{Answer}
-use Rattle.services.proofs.Glue.{sound-step}
-use Rattle.tables.proofs.Admits.{step-tables}
+use Rattle.laws.specs.Kept.{fresh-sound}
+use Rattle.services.proofs.Names.{sound-step, step-tables}
 use Rattle.services.proofs.Leaves.{fresh-leaves-sound}
 use Rattle.services.proofs.Serves.{sound-serves, serve-leaves-sound}
 use Rattle.services.proofs.Tables.fresh.Reads as fresh
@@ -76,7 +76,9 @@ module _ (t : Tables) (a : Asked) (r : Answer) (codes : List ℕ) (h : soundb t 
   as-ruled = e ∙ (sound-serves t a h ∙ ap servedBy (sym (sound-served (stepOf t) a (sound-step t h))))
 
   leaves : stepOf (r .tables) ≡ outcome .tables
-  leaves = ap (λ (o : Served Tables). stepOf (o .outcome .tables)) as-ruled ∙ step-tables (outcome .tables)
+  leaves =
+      ap (λ (o : Served Tables). stepOf (o .outcome .tables)) as-ruled
+      ∙ step-tables (outcome .tables) (serve-sound (stepOf t) a (sound-step t h))
 
   seen : turnOf a outcome ≡ seenOf a r
   seen = ap (λ (o : Served Tables). turnAt (o .outcome .number) (o .outcome .besides)) (sym as-ruled)
@@ -112,7 +114,8 @@ module _ (f : Called fresh.Post) (z : f .result .reply ≡ Done) where
     starts = λ i. record {
       number = (sym (ap (λ (o : Outcome Tables). o .number) (fresh-promises f)) ∙ ap numberOf z) i;
       besides = (sym (ap (λ (o : Outcome Tables). o .besides) (fresh-promises f)) ∙ ap besidesIn z) i;
-      tables = sym (ap (λ (o : Outcome Tables). stepOf (o .tables)) (fresh-promises f) ∙ step-tables (begun .tables)) i;
+      tables = sym (ap (λ (o : Outcome Tables). stepOf (o .tables)) (fresh-promises f) ∙ step-tables (begun .tables)
+          (fresh-sound (f .given .0) (f .given .1 .0))) i;
     };
   }
 

@@ -25,7 +25,8 @@ use Rattle.services.specs.Kept.{stepOf, saidWith, servedBy, soundb}
 use Rattle.services.specs.Serve.{servedOf}
 use Rattle.services.specs.declared.Tables.{Tables}
 use Rattle.services.specs.declared.Answer.{Answer}
-use Rattle.services.proofs.Glue.{sound-step, refused-kept}
+use Rattle.services.proofs.Names.{sound-step}
+use Rattle.services.proofs.Glue.{refused-kept}
 use Rattle.services.proofs.Serves.{unsound-serves}
 use Rattle.services.proofs.Tables.fresh.Reads as fresh
 use Rattle.calls.specs.Called.{Called}

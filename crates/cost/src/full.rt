@@ -6,10 +6,13 @@ use kinds::Area;
 use kinds::Condition;
 use kinds::MaybeEcb;
 use kinds::Name;
+use kinds::NameOffset;
 use kinds::Slot;
 use kinds::Task;
 use kinds::TaskNumber;
+use namearea::NameArea;
 use queue::Queue;
+use services::Tables;
 use storage::Storage;
 use tables::AllTables;
 use tasks::TaskTable;
@@ -18,8 +21,8 @@ ghost use Prim.Native.Nat.{_≤_};
 // Of every task.
 const PRIORITY: u8 = Task::HIGHEST_PRIORITY as u8;
 
-// Of every minor part.
-const LENGTH: u16 = Name::LONGEST as u16;
+// The bytes of every name in the name area: the major part, a length byte, the longest minor part.
+const NAME: usize = Name::MAJOR + 1 + Name::LONGEST;
 
 // Every task place taken, by daughters of task 1.
 fn full_tasks() -> TaskTable {
@@ -40,28 +43,42 @@ fn full_tasks() -> TaskTable {
     f
 }
 
-// Every place of the queue taken, by exclusive entries, four of each task, whose names differ in the first byte of
-// their major parts only, which is compared last.
+// Every place of the queue taken, by exclusive entries, four of each task, and each for a name of its own.
 fn full_queue() -> Queue {
     let mut q = queue::empty();
     let mut i: usize = 0;
     while i < Slot::PLACES {
-        let mut name = Name {
-            major: [65u8; Name::MAJOR],
-            minor: [66u8; Name::LONGEST],
-            length: LENGTH,
-        };
-        name.major[0] = i as u8;
+        let at = (i * NAME) as u16;
         let x = Slot {
             task: task((i % TaskNumber::PLACES + 1) as u32),
             exclusive: true,
-            name,
+            name: NameOffset(at),
         };
         q.slots[i] = x;
         i += 1;
     }
     q.count = Slot::PLACES;
     q
+}
+
+// The names of these entries, packed in their order.
+fn full_names() -> NameArea {
+    let mut bytes = [0u8; NameArea::BYTES];
+    let mut i: usize = 0;
+    while i < Slot::PLACES * NAME {
+        bytes[i] = name_byte((i / NAME) as u8, i % NAME);
+        i += 1;
+    }
+    NameArea { bytes }
+}
+
+// A byte of an entry's name. The names differ in the first byte of their major parts only, which is compared last.
+fn name_byte(entry: u8, at: usize) -> u8 {
+    match at {
+        0 => entry,
+        Name::MAJOR => Name::LONGEST as u8,
+        _ => 65,
+    }
 }
 
 // Every area taken, each of the step, a doubleword long.
@@ -82,18 +99,22 @@ fn full_storage() -> Storage {
     s
 }
 
-fn full_tables() -> AllTables {
+fn full_tables() -> Tables {
     let f = full_tasks();
     let q = full_queue();
     let e = ecbs::empty();
     let s = full_storage();
-    AllTables {
+    let all = AllTables {
         over: false,
         code: 0,
         tasks: f,
         queue: q,
         ecbs: e,
         storage: s,
+    };
+    Tables {
+        all,
+        names: full_names(),
     }
 }
 
@@ -105,8 +126,9 @@ pub(crate) fn tests(n: u32) -> u32
     let mut hits: u32 = 0;
     let mut i: u32 = 0;
     while i < n {
-        t.code = (i % 2) as u16;
-        hits += one_if(tables::sound::sound(t));
+        let code = (i % 2) as u16;
+        t.all.code = code;
+        hits += one_if(t.sound());
         i += 1;
     }
     hits
@@ -126,10 +148,11 @@ pub(crate) fn copies(n: u32) -> u32 {
     while i < n {
         let at = (i % 2) as usize;
         let mut x = pair[at];
-        x.code = (i % 1000) as u16;
+        let code = (i % 1000) as u16;
+        x.all.code = code;
         pair[1 - at] = x;
         i += 1;
     }
     let last = pair[0];
-    last.code as u32
+    last.all.code as u32
 }

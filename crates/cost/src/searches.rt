@@ -51,8 +51,7 @@ pub(crate) fn repeated(search: Search, n: u32, t: AllTables, most: u32) -> Answe
 {
     let mut found: u32 = 0;
     let mut last = MaybeAddress::Nowhere;
-    let q = t.queue;
-    if !queue::packed(q) {
+    if !queue::packed(t.queue) {
         return Answers { found, last };
     }
     let s = t.storage;

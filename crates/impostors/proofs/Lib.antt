@@ -28,3 +28,4 @@ pub mod Real
 pub mod Impostors
 pub mod Slips
 pub mod Demands
+pub mod OfNamearea

@@ -1,7 +1,7 @@
 -- Wrong answers that the contracts of `between::entries`, `between::entries_ending` and `between::waking` rule out.
 use mathlib.Core.Path.{refl}
 use mathlib.Core.Bool.{not, _&&_, _||_}
-use mathlib.Core.List.{[], _∷_}
+use mathlib.Core.List.{List, [], _∷_}
 use native.Mathlib.Omega.{arith}
 use Rattle.lists.specs.Pick.{pick}
 use Rattle.lists.specs.Lists.{every, some, keep, everyAt, mapAt, alike}
@@ -17,7 +17,6 @@ use Rattle.rules.specs.Family.{conditionOf, used}
 use Rattle.rules.specs.ResourceWaits.{waitsBy}
 use Rattle.rules.specs.Table.{rowOf, exc}
 use Rattle.rules.specs.Enq.{entryFor}
-use Rattle.history.specs.Samples.{x, y}
 use Rattle.tasks.specs.TaskTables.{taskTableOf}
 use Rattle.tasks.specs.declared.TaskTable.{TaskTable}
 use Rattle.queue.specs.Queues.{entriesIn, storedEntries, PackedEntries}
@@ -27,9 +26,8 @@ use Rattle.between.proofs.entries_ending.entries_left.Reads as entries-left
 use Rattle.between.proofs.waking.wake.Reads as wake
 use Rattle.impostors.specs.Fitting.{_⊗_, fits-TaskTable, fits-Queue, fits-end}
 use Rattle.impostors.specs.Opened.{tables-open}
-use Rattle.impostors.specs.Samples.{ecb}
+use Rattle.impostors.specs.Samples.{ecb, xAt, yAt}
 use Rattle.impostors.specs.Wrong.{RuledOut, wrong-at}
-use Rattle.impostors.specs.Parts.{ownerAndWaiter}
 
 -- task 1 is ready, and its subtask 2, attached with ECB 3, in this condition
 abbrev tasks : Condition → TaskTable
@@ -39,6 +37,10 @@ tasks k =
 -- the condition of 2
 abbrev second : TaskTable → Condition
 second f = conditionOf (f .places) 2
+
+-- task 1 owns x, and 2 waits for it
+abbrev ownerAndWaiter : List Entry
+ownerAndWaiter = entryFor 1 (exc xAt) ∷ entryFor 2 (exc xAt) ∷ []
 
 two-packed : PackedEntries (storedEntries ownerAndWaiter)
 unfolding tables-open
@@ -88,7 +90,7 @@ pub entries-left-ended-stay : RuledOut (λ k. fits-Queue ⊗ fits-TaskTable ⊗ 
 unfolding tables-open
 entries-left-ended-stay =
     wrong-at tt (storedEntries ownerAndWaiter, (tasks Ended, tt)) refl two-packed
-    (λ q. hasEntry (entriesIn q) 2 x) refl refl
+    (λ q. hasEntry (entriesIn q) 2 xAt) refl refl
 
 -- an entry of a task that waits goes
 pub entries-left-waiting-go : RuledOut (λ k. fits-Queue ⊗ fits-TaskTable ⊗ fits-end) entries-left.Pre entries-left.Post
@@ -96,7 +98,7 @@ pub entries-left-waiting-go : RuledOut (λ k. fits-Queue ⊗ fits-TaskTable ⊗ 
 unfolding tables-open
 entries-left-waiting-go =
     wrong-at tt (storedEntries ownerAndWaiter, (tasks ResourceWait, tt)) refl two-packed
-    (λ q. not (hasEntry (entriesIn q) 2 x))
+    (λ q. not (hasEntry (entriesIn q) 2 xAt))
     refl refl
 
 -- nobody wakes: 2 waits, and no entry is left
@@ -114,7 +116,7 @@ pub wake-at-the-first-grant : RuledOut (λ k. fits-Queue ⊗ fits-TaskTable ⊗ 
     (withCondition t Ready) t) 1 (a .1 .0 .places)))
 unfolding tables-open
 wake-at-the-first-grant =
-    wrong-at tt (storedEntries (entryFor 2 (exc y) ∷ ownerAndWaiter), (tasks ResourceWait, tt)) refl (omega arith)
+    wrong-at tt (storedEntries (entryFor 2 (exc yAt) ∷ ownerAndWaiter), (tasks ResourceWait, tt)) refl (omega arith)
     (λ f. isReady (second f)) refl refl
 
 -- whoever lacks control begins to wait: 2 is ready

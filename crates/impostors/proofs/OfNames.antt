@@ -1,13 +1,12 @@
 -- Wrong answers that the contracts of `names` rule out.
-use Prim.Native.Nat.{ℕ, _+_, _-_}
+use Prim.Native.Nat.{ℕ, _-_}
 use mathlib.Core.Path.{refl}
 use mathlib.Core.Bool.{Bool, true, false, not, _&&_, _||_}
 use mathlib.Core.List.{List, [], _∷_, map}
 use native.Mathlib.Omega.{arith}
 use lib.Dec.{eqb, leb}
-use lib.ListN.{length, getD, take, replicate}
+use lib.ListN.{length, take, replicate}
 use Rattle.lists.specs.Lists.{sameBytes, every, distinct, alike}
-use Rattle.lists.specs.Tables.{padded}
 use Rattle.kinds.specs.Limits.{longestMinor, longestList, systemBytes}
 use Rattle.kinds.specs.Ranges.{between, minorGood, countGood}
 use Rattle.kinds.specs.declared.names.Name.{Name}
@@ -23,7 +22,6 @@ use Rattle.names.specs.Named.{resourceOf, kept, askOf, namesIn}
 use Rattle.names.proofs.same_name.Reads as same-name
 use Rattle.names.proofs.is_legal.Reads as is-legal
 use Rattle.names.proofs.is_system.Reads as is-system
-use Rattle.names.proofs.clean.Reads as clean
 use Rattle.names.proofs.list.names_good.Reads as names-good
 use Rattle.names.proofs.list.asks_shared.Reads as asks-shared
 use Rattle.names.proofs.list.asks_system.Reads as asks-system
@@ -120,27 +118,6 @@ pub is-system-in-ascii : RuledOut (λ k. fits-Name ⊗ fits-end) is-system.Pre i
     (λ k a. sameBytes (take 3 (a .0 .major)) (0x53 ∷ 0x59 ∷ 0x53 ∷ []))
 unfolding tables-open
 is-system-in-ascii = wrong-at tt (kept sysdsn, tt) refl tt not refl refl
-
--- the name comes back as it is, with what stands behind the minor part: it is the byte 1, and a 9 stands behind it
-pub clean-bytes-behind-stay : RuledOut (λ k. fits-Name ⊗ fits-end) clean.Pre clean.Post (λ k a. a .0)
-unfolding tables-open
-clean-bytes-behind-stay = wrong-at tt (stated 1, tt) refl (omega arith) (λ n. eqb (getD (n .minor) 1 0) 9) refl refl
-
--- so many bytes of the array, and zeros behind them
-abbrev keeping : ℕ → Name → Name
-keeping i n = record { major = n .major; minor = padded longestMinor 0 (take i (n .minor)); length = n .length }
-
--- a byte more than the minor part is kept: it is the byte 1, and the 9 behind it is kept
-pub clean-a-byte-more : RuledOut (λ k. fits-Name ⊗ fits-end) clean.Pre clean.Post
-    (λ k a. keeping (a .0 .length + 1) (a .0))
-unfolding tables-open
-clean-a-byte-more = wrong-at tt (stated 1, tt) refl (omega arith) (λ n. eqb (getD (n .minor) 1 0) 9) refl refl
-
--- the last byte of the minor part is lost: it is 1 9, and a 0 is kept for the 9
-pub clean-last-byte-lost : RuledOut (λ k. fits-Name ⊗ fits-end) clean.Pre clean.Post
-    (λ k a. keeping (a .0 .length - 1) (a .0))
-unfolding tables-open
-clean-last-byte-lost = wrong-at tt (stated 2, tt) refl (omega arith) (λ n. eqb (getD (n .minor) 1 0) 0) refl refl
 
 -- LISTS OF NAMES
 

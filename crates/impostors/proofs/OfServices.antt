@@ -2,18 +2,18 @@
 -- thing: 100, the gate, the numbers and the tables are those of the rules wherever the
 -- mistake doesn't show. Whole services that are wrong stand in Impostors and Slips.
 use Prim.Native.Nat.{ℕ, _+_, _-_, _*_, _/_}
-use mathlib.Core.Path.{_≡_, refl}
+use mathlib.Core.Path.{_≡_, refl, ap, _∙_}
 use mathlib.Core.Bool.{Bool, true, false, not, cond, _&&_, _||_}
 use mathlib.Core.List.{List, [], _∷_, _++_, map}
 use lib.Dec.{eqb, ltb}
 use lib.IntN.{ℤ, pos}
 use lib.ListN.{length, getD, set, take, replicate}
 use denote.Ref.{RefT, now, at-last}
-use Rattle.lists.specs.Lists.{some, keep, numbers, gathered}
-use Rattle.lists.specs.Pick.{pick}
-use Rattle.kinds.specs.Limits.{highestTask, mostEntries, region, doubleword}
+use Rattle.lists.specs.Lists.{some, keep, numbers, gathered, every}
+use Rattle.lists.specs.Pick.{pick, pick-true}
+use Rattle.kinds.specs.Limits.{highestTask, mostEntries, region, doubleword, nameArea}
 use Rattle.kinds.specs.Ranges.{endCodeGood, priorityGood}
-use Rattle.kinds.specs.Replies.{valueOf}
+use Rattle.kinds.specs.Replies.{valueOf, numberOf, replyOf}
 use Rattle.kinds.specs.Replies.Besides.{TheNumber, TheCount}
 use Rattle.kinds.specs.Tasks.{noTask, isFree, isReady, inResourceWait}
 use Rattle.kinds.specs.declared.numbers.TaskNumber.{TaskNumber}
@@ -37,7 +37,10 @@ use Rattle.kinds.specs.declared.replies.Gate.{Gate}
 use Rattle.kinds.specs.declared.replies.Gate.the-variants.{Open, Shut}
 use Rattle.names.specs.Named.{namesIn}
 use Rattle.ecbs.specs.Blocks.{ecbsIn}
-use Rattle.rules.specs.Names.{Resource, Ask, Names, sameName, namesOf as resources}
+use Rattle.kinds.specs.declared.replies.Reply.the-variants.{Refused}
+use Rattle.kinds.specs.declared.replies.Refusal.the-variants.{ShortArea}
+use Rattle.rules.specs.Names as asked
+use Rattle.rules.specs.Names.{Resource, Ask, Names, namesOf as resources, legal}
 use Rattle.rules.specs.Control.{Entry}
 use Rattle.rules.specs.Rings.{waitsFor, leadsBy, tasksQueued, stuck as stuckOf}
 use Rattle.rules.specs.Reports.{StuckTask, firstStuckAt, stuckItem, standing, queuesOf, queueItem, ItemList, itemised}
@@ -47,7 +50,6 @@ use Rattle.rules.specs.Family.{place, withPlace, conditionOf, below}
 use Rattle.rules.specs.Steps.{Step, Outcome, Served, done, doneWith, refused, keptBy, overStep, withTasks, withQueue}
 use Rattle.rules.specs.Steps.{withEcbs, withAreas, untouched}
 use Rattle.rules.specs.Table.{named, shr, exc}
-use Rattle.rules.specs.Examples.{filled}
 use Rattle.rules.specs.SystemCases.{beginning, sysdsn, sysdsnWith}
 use Rattle.rules.specs.Alike.{kindOf}
 use Rattle.rules.specs.Tests.{refuse, fail, firstOf}
@@ -73,8 +75,8 @@ use Rattle.rules.specs.Sound.{soundStep}
 use Rattle.rules.specs.Fresh.{freshStep}
 use Rattle.rules.specs.Serve.{serviceOf}
 use Rattle.history.specs.Samples.{start, x, y}
-use Rattle.tables.specs.Tables.{putQueue}
-use Rattle.services.specs.Kept.{inTables, stepOf, tablesOf, soundb, answered, answeredWith, saidWith}
+use Rattle.tables.specs.Tables.{putQueue, soundTables}
+use Rattle.services.specs.Kept.{inTables, stepOf, tablesOf, soundb, answered, answeredWith, saidWith, servedBy}
 use Rattle.services.specs.declared.Tables.{Tables}
 use Rattle.services.specs.declared.Answer.{Answer}
 use Rattle.services.proofs.Tables.sound.Reads as sound
@@ -94,6 +96,14 @@ use Rattle.services.proofs.Tables.freemain.Reads as freemain
 use Rattle.services.proofs.Tables.serve.Reads as serve
 use Rattle.services.proofs.Tables.stuck.Reads as stuck
 use Rattle.services.proofs.Tables.queues.Reads as queues
+use Rattle.lists.specs.Tables.{padded}
+use Rattle.laws.specs.NamesAfter.{entryNames}
+use Rattle.namearea.specs.Areas.{holds}
+use Rattle.queue.specs.Queues.{zeroSlot}
+use Rattle.queue.specs.Pointing.{offsetsIn}
+use Rattle.rules.specs.Examples.{filled}
+use Rattle.services.proofs.Names.{sound-kept, step-tables}
+use Rattle.namearea.specs.Scanning.{areaFor}
 use Rattle.impostors.specs.Fitting.{_⊗_, fits-bool, fits-end, fits-i16, fits-lent, fits-u16, fits-u32, fits-u8}
 use Rattle.impostors.specs.Fitting.{fits-Address, fits-DeqRet, fits-EcbList, fits-EcbNumber, fits-MaybeEcb}
 use Rattle.impostors.specs.Fitting.{fits-NameList, fits-Request, fits-Ret, fits-Tables, fits-TaskNumber}
@@ -106,9 +116,9 @@ use Rattle.impostors.specs.Samples.{ringOfTwo, behindAnother, sharedAhea
 use Rattle.impostors.specs.Parts.{lent, address, lastBest, incomplete}
 use Rattle.impostors.specs.Impostors.{byService}
 use Rattle.impostors.specs.Answers.{answerOf, answering, but, butServed, retelling, coding, reporting}
-use Rattle.impostors.proofs.OfTablesSound.{judged as soundBy, lengthsOnly}
 use Rattle.impostors.specs.Verdicts.{Judge, keepingOff, never110, firstOnly, twoBytes, inMinorToo, byName}
-use Rattle.impostors.specs.Verdicts.{unlessTest, after104, before101, deqKeepingOff, enqJudged, deqJudged}
+use Rattle.impostors.specs.Verdicts.{unlessTest, after104, before101, shortFirst, deqKeepingOff}
+use Rattle.impostors.specs.Verdicts.{enqJudged, deqJudged}
 use Rattle.impostors.specs.Haves.{Doing, allOrNothing, skippedQueued, skipsNothing, lastFirst}
 use Rattle.impostors.specs.Haves.{skippedMadeExclusive, neverWaits, answersZero, enqDoing, fullBy, wholeList}
 use Rattle.impostors.specs.Haves.{noneFree}
@@ -166,8 +176,11 @@ pub sound-behind-the-count : RuledOut (λ k. fits-Tables ⊗ fits-end) sound.Pre
     (λ k a. soundStep (stepOf (a .0)))
 unfolding tables-open
 sound-behind-the-count =
-    wrong-at tt
-    (inTables (putQueue (tables owned .all) (record { slots = tables owned .all .queue .slots; count = 0 })), tt)
+    wrong-at tt (
+      inTables (putQueue (tables owned .all) (record { slots = tables owned .all .queue .slots; count = 0 }))
+          (tables owned .names .bytes),
+      tt,
+    )
     refl tt (λ b. b) refl refl
 
 -- of a step that is over only the code is looked at: it has tasks
@@ -179,13 +192,28 @@ sound-over-with-tasks =
     (tablesOf (record { over = true; code = 0; tasks = start .tasks; queue = []; ecbs = start .ecbs; areas = [] }), tt)
     refl tt (λ b. b) refl refl
 
--- an entry may be for a system name: of names only the lengths are looked at
+-- names are not judged: a minor part may be empty
+abbrev namesUnjudged : Tables → Bool
+namesUnjudged t = soundTables (t .all) && holds (t .names) (offsetsIn (t .all .queue))
 
+pub sound-with-an-empty-name : RuledOut (λ k. fits-Tables ⊗ fits-end) sound.Pre sound.Post (λ k a. namesUnjudged (a .0))
+unfolding tables-open
+sound-with-an-empty-name =
+    wrong-at tt (tablesOf (withQueue start (entryFor 1 (exc (named 88 [])) ∷ [])), tt) refl tt (λ b. b) refl refl
+
+-- an entry may be for a system name: of names only the lengths are looked at
 pub sound-with-a-system-name : RuledOut (λ k. fits-Tables ⊗ fits-end) sound.Pre sound.Post
-    (λ k a. soundBy lengthsOnly (a .0 .all, tt))
+    (λ k a. namesUnjudged (a .0) && every legal (entryNames (stepOf (a .0) .queue)))
 unfolding tables-open
 sound-with-a-system-name =
     wrong-at tt (tablesOf (withQueue start (entryFor 1 (exc sysdsn) ∷ [])), tt) refl tt (λ b. b) refl refl
+
+-- the name area is not looked at: a byte is left in that of a step that has no entry
+pub sound-with-a-byte-left : RuledOut (λ k. fits-Tables ⊗ fits-end) sound.Pre sound.Post
+    (λ k a. soundTables (a .0 .all))
+unfolding tables-open
+sound-with-a-byte-left =
+    wrong-at tt (inTables (tablesOf start .all) (padded nameArea 0 (1 ∷ [])), tt) refl tt (λ b. b) refl refl
 
 -- FRESH START
 
@@ -372,6 +400,12 @@ unfolding tables-open
 enq-110-after-104 =
     wrong-with ([], tt) (asking Test (shr sysdsn ∷ []) []) refl tt (λ o. eqb (o .outcome .number) 104) refl refl
 
+-- TEST for x twice, with no codes area, is 104
+pub enq-104-before-101 : RuledOutWith (λ k. fits-Coded fits-Ret) enq.Pre enq.Post (λ k a. enqBy shortFirst a)
+unfolding tables-open
+enq-104-before-101 =
+    wrong-with ([], tt) (asking Test (exc x ∷ exc x ∷ []) []) refl tt (λ o. eqb (o .outcome .number) 104) refl refl
+
 -- NONE for a system name without a minor part is 110
 pub enq-110-before-101 : RuledOutWith (λ k. fits-Coded fits-Ret) enq.Pre enq.Post (λ k a. enqBy before101 a)
 unfolding tables-open
@@ -427,6 +461,12 @@ many n o = eqb (o .outcome .tables .all .queue .count) n
 abbrev entryBehind : ℕ → Served Tables → Entry
 entryBehind n o = getD (stepOf (o .outcome .tables) .queue) n (entryFor 0 (exc x))
 
+-- the first byte of its name
+abbrev firstByteBehind : ℕ → Served Tables → ℕ
+firstByteBehind n o =
+    let t = o .outcome .tables in
+    getD (t .names .bytes) (getD (t .all .queue .slots) n zeroSlot .name .0) 0
+
 -- all or nothing, as document 01 alone would have it: no entry comes
 pub enq-have-all-or-nothing : RuledOutWith (λ k. fits-Coded fits-Ret) enq.Pre enq.Post (λ k a. enqHaving allOrNothing a)
 unfolding tables-open
@@ -447,7 +487,7 @@ enq-have-skips-nothing = wrong-with ([], tt) asksMixed refl tt (many 5) refl ref
 pub enq-have-last-first : RuledOutWith (λ k. fits-Coded fits-Ret) enq.Pre enq.Post (λ k a. enqHaving lastFirst a)
 unfolding tables-open
 enq-have-last-first =
-    wrong-with ([], tt) asksMixed refl tt (λ o. sameName (entryBehind 2 o .name) z) refl refl
+    wrong-with ([], tt) asksMixed refl tt (λ o. eqb (firstByteBehind 2 o) (getD (z .major) 0 0)) refl refl
 
 -- the skipped shared entry for x is made exclusive
 pub enq-have-makes-exclusive : RuledOutWith (λ k. fits-Coded fits-Ret) enq.Pre enq.Post
@@ -465,29 +505,124 @@ pub enq-have-answers-0 : RuledOutWith (λ k. fits-Coded fits-Ret) enq.Pre enq.Po
 unfolding tables-open
 enq-have-answers-0 = wrong-with ([], tt) asksMixed refl tt (λ o. eqb (o .outcome .number) 0) refl refl
 
+-- what is promised of a sound step's tables, by the law that they keep it: to compute it would be to read each of so
+-- many names from the area, again and again
+kept-answer : (s : Step) → soundStep s ≡ true → (area : List ℕ) (f : Step → List ℕ → Served Step)
+    → answeredWith (tablesOf s) area f ≡ servedBy (f s area)
+unfolding answeredWith
+kept-answer s h area f =
+    pick-true (soundb (tablesOf s)) _ _ (sound-kept s h)
+    ∙ ap (λ (u : Step). servedBy (f u area)) (step-tables s h)
+
 -- so many entries of task 1, which asks by HAVE for these names
 abbrev fullAsking : ℕ → List Ask → List ℕ → Coded Ret
 fullAsking n l area = (tablesOf (filled n), (task 1, (Have, (namesOf l, (lent area, tt)))))
+
+-- the number of the reply that says an outcome
+abbrev replyNumber : {T : Type 0} → Outcome T → ℕ
+replyNumber o = numberOf (replyOf (o .number) (o .besides))
+
+filled-sound : (soundStep (filled 127) ≡ true) × (soundStep (filled 128) ≡ true)
+unfolding tables-open
+filled-sound = (refl, refl)
+
+-- the number that is promised
+abbrev fullNumber : ℕ → List Ask → List ℕ → ℕ
+fullNumber n l area = enqOf (filled n) (task 1) Have (namesIn (namesOf l)) area .outcome .number
+
+full-promised : (n : ℕ) (l : List Ask) (area : List ℕ) → soundStep (filled n) ≡ true
+    → answeredWith (tablesOf (filled n)) area (λ s lent. enqOf s (task 1) Have (namesIn (namesOf l)) lent) .outcome
+    .number
+    ≡ fullNumber n l area
+full-promised n l area h =
+    ap (λ (o : Served Tables). o .outcome .number)
+    (kept-answer (filled n) h area (λ s lent. enqOf s (task 1) Have (namesIn (namesOf l)) lent))
 
 -- the first of them
 abbrev firstHeld : Resource
 firstHeld = named 1 (0 ∷ [])
 
 -- 105 by the whole list: 127 entries, and one of them and y are asked for
+abbrev oneMore : Coded Ret
+oneMore = fullAsking 127 (exc firstHeld ∷ exc y ∷ []) (238 ∷ 238 ∷ [])
+
+one-more-fits : fits-Coded fits-Ret oneMore ≡ true
+unfolding tables-open
+one-more-fits = refl
+
+one-more-counted-105 : replyNumber
+    (enqJudged (fullBy wholeList) (filled 127) (task 1) Have (namesIn (namesOf (exc firstHeld ∷ exc y ∷ [])))
+    (238 ∷ 238 ∷ []) .outcome)
+    ≡ 105
+unfolding tables-open
+one-more-counted-105 = refl
+
+one-more-counted : eqb (numberOf (enqBy (fullBy wholeList) oneMore .0 .reply)) 105 ≡ true
+one-more-counted =
+    ap (λ (m : ℕ). eqb m 105)
+    (ap (λ (o : Served Tables). replyNumber (o .outcome))
+    (kept-answer (filled 127) (filled-sound .0) (238 ∷ 238 ∷ [])
+    (λ s lent. enqJudged (fullBy wholeList) s (task 1) Have (namesIn (namesOf (exc firstHeld ∷ exc y ∷ []))) lent))
+    ∙ one-more-counted-105)
+
+one-more-taken : fullNumber 127 (exc firstHeld ∷ exc y ∷ []) (238 ∷ 238 ∷ []) ≡ 4
+unfolding tables-open
+one-more-taken = refl
+
 pub enq-105-by-the-whole-list : RuledOutWith (λ k. fits-Coded fits-Ret) enq.Pre enq.Post
     (λ k a. enqBy (fullBy wholeList) a)
-unfolding tables-open
 enq-105-by-the-whole-list =
-    wrong-with ([], tt) (fullAsking 127 (exc firstHeld ∷ exc y ∷ []) (238 ∷ 238 ∷ [])) refl tt
-    (λ o. eqb (o .outcome .number) 105) refl refl
+    wrong-with ([], tt) oneMore one-more-fits tt (λ o. eqb (o .outcome .number) 105) one-more-counted
+    (ap (λ (m : ℕ). eqb m 105)
+    (full-promised 127 (exc firstHeld ∷ exc y ∷ []) (238 ∷ 238 ∷ []) (filled-sound .0) ∙ one-more-taken))
 
 -- 105 with nothing to queue: 128 entries, and one of them is asked for
+abbrev noneMore : Coded Ret
+noneMore = fullAsking 128 (exc firstHeld ∷ []) (238 ∷ [])
+
+none-more-fits : fits-Coded fits-Ret noneMore ≡ true
+unfolding tables-open
+none-more-fits = refl
+
+none-more-counted-105 : replyNumber
+    (enqJudged (fullBy noneFree) (filled 128) (task 1) Have (namesIn (namesOf (exc firstHeld ∷ []))) (238 ∷ [])
+    .outcome)
+    ≡ 105
+unfolding tables-open
+none-more-counted-105 = refl
+
+none-more-counted : eqb (numberOf (enqBy (fullBy noneFree) noneMore .0 .reply)) 105 ≡ true
+none-more-counted =
+    ap (λ (m : ℕ). eqb m 105)
+    (ap (λ (o : Served Tables). replyNumber (o .outcome))
+    (kept-answer (filled 128) (filled-sound .1) (238 ∷ [])
+    (λ s lent. enqJudged (fullBy noneFree) s (task 1) Have (namesIn (namesOf (exc firstHeld ∷ []))) lent))
+    ∙ none-more-counted-105)
+
+none-more-skipped : fullNumber 128 (exc firstHeld ∷ []) (238 ∷ []) ≡ 4
+unfolding tables-open
+none-more-skipped = refl
+
 pub enq-105-with-nothing-to-queue : RuledOutWith (λ k. fits-Coded fits-Ret) enq.Pre enq.Post
     (λ k a. enqBy (fullBy noneFree) a)
-unfolding tables-open
 enq-105-with-nothing-to-queue =
-    wrong-with ([], tt) (fullAsking 128 (exc firstHeld ∷ []) (238 ∷ [])) refl tt
-    (λ o. eqb (o .outcome .number) 105) refl refl
+    wrong-with ([], tt) noneMore none-more-fits tt (λ o. eqb (o .outcome .number) 105) none-more-counted
+    (ap (λ (m : ℕ). eqb m 105)
+    (full-promised 128 (exc firstHeld ∷ []) (238 ∷ []) (filled-sound .1) ∙ none-more-skipped))
+
+-- a refused ENQ leaves its name in the area: 104, and x stands there
+pub enq-refused-leaves-its-name : RuledOutWith (λ k. fits-Coded fits-Ret) enq.Pre enq.Post
+    (λ k a. (
+      record {
+        tables = inTables (a .0 .all) (areaFor nameArea (asked.namesOf (namesIn (a .1 .1 .1 .0))));
+        reply = Refused ShortArea;
+      },
+      a,
+    ))
+unfolding tables-open
+enq-refused-leaves-its-name =
+    wrong-with ([], tt) (asking Test (exc x ∷ []) []) refl tt
+    (λ o. eqb (getD (o .outcome .tables .names .bytes) 0 0) (getD (x .major) 0 0)) refl refl
 
 -- DEQ
 

@@ -4,15 +4,15 @@ use mathlib.Core.Path.{refl}
 use mathlib.Core.Bool.{not}
 use mathlib.Core.List.{[]}
 use lib.Dec.{eqb}
+use Rattle.lists.specs.Lists.{none}
 use Rattle.kinds.specs.Replies.{numberOf}
 use Rattle.kinds.specs.declared.replies.Refusal.the-variants.{OutOfRange}
 use Rattle.kinds.specs.declared.replies.Reply.the-variants.{Done, Four}
 use Rattle.kinds.specs.declared.replies.Verdict.the-variants.{Go, Refuse}
-use Rattle.rules.specs.Control.{hasEntry}
 use Rattle.rules.specs.Events.{ecbAt}
 use Rattle.rules.specs.Family.{live}
 use Rattle.rules.specs.Steps.{overStep}
-use Rattle.history.specs.Samples.{start, x}
+use Rattle.history.specs.Samples.{start}
 use Rattle.queue.specs.Queues.{entriesIn, storedEntries}
 use Rattle.storage.specs.Stored.{storedAreas}
 use Rattle.tables.specs.Tables.{tablesOf, putTasks, putQueue, putEcbs, putStorage}
@@ -67,20 +67,20 @@ unfolding tables-open
 put-tasks-lost =
     wrong-at tt (fresh, (withEntry .tasks, tt)) refl tt (λ t. not (live (t .tasks .places) 2)) refl refl
 
--- the queue goes with the tasks that it was of: the entry for x is lost
+-- the queue goes with the tasks that it was of: the entry is lost
 pub put-tasks-and-no-entries :
     RuledOut (λ k. fits-AllTables ⊗ fits-TaskTable ⊗ fits-end) put-tasks.Pre put-tasks.Post
     (λ k a. putQueue (putTasks (a .0) (a .1 .0)) (storedEntries []))
 unfolding tables-open
 put-tasks-and-no-entries =
-    wrong-at tt (withEntry, (withEntry .tasks, tt)) refl tt (λ t. not (hasEntry (entriesIn (t .queue)) 1 x)) refl refl
+    wrong-at tt (withEntry, (withEntry .tasks, tt)) refl tt (λ t. none (entriesIn (t .queue))) refl refl
 
--- the table is not put in: 1 has no entry for x
+-- the table is not put in: 1 has no entry
 pub put-queue-lost :
     RuledOut (λ k. fits-AllTables ⊗ fits-Queue ⊗ fits-end) put-queue.Pre put-queue.Post (λ k a. a .0)
 unfolding tables-open
 put-queue-lost =
-    wrong-at tt (fresh, (withEntry .queue, tt)) refl tt (λ t. not (hasEntry (entriesIn (t .queue)) 1 x)) refl refl
+    wrong-at tt (fresh, (withEntry .queue, tt)) refl tt (λ t. none (entriesIn (t .queue))) refl refl
 
 -- the code of a step that is over is lost: 7
 pub put-queue-code-lost :

@@ -14,7 +14,6 @@ use Rattle.kinds.specs.declared.tasks.Condition.{Condition}
 use Rattle.kinds.specs.declared.tasks.Condition.the-variants.{Free, Ready, EcbWait, Ended}
 use Rattle.kinds.specs.declared.tasks.MaybeEcb.{MaybeEcb}
 use Rattle.kinds.specs.declared.tasks.MaybeEcb.the-variants.{NoEcb, Named}
-use Rattle.rules.specs.Names.{legal, isSystem}
 use Rattle.rules.specs.Control.{Entry}
 use Rattle.rules.specs.Steps.{Step, withTasks, withQueue, withEcbs, withAreas, withState, overStep}
 use Rattle.rules.specs.Family.{withPlace}
@@ -26,8 +25,7 @@ use Rattle.rules.specs.SoundEcbs.{waitersGood, needsGood, ecbWordsGood, zeroEcb
 use Rattle.rules.specs.SoundAreas.{areaShapesGood, areaOwnersGood, areasRise, areasApart}
 use Rattle.rules.specs.Sound.{sizesGood}
 use Rattle.rules.specs.HandCases.{area}
-use Rattle.rules.specs.Table.{rowOf, named, shr, exc}
-use Rattle.rules.specs.SystemCases.{sysdsn}
+use Rattle.rules.specs.Table.{rowOf, shr, exc}
 use Rattle.history.specs.Samples.{start, x}
 use Rattle.queue.specs.Queues.{entriesIn, storedEntries, packedEntries}
 use Rattle.queue.specs.declared.Queue.{Queue}
@@ -187,24 +185,6 @@ pub sound-with-two-entries-for-a-name : RuledOut takes sound.Pre sound.Post (λ 
 unfolding tables-open
 sound-with-two-entries-for-a-name =
     wrong-at tt (given (entries two (entryFor 1 (shr x) ∷ entryFor 1 (shr x) ∷ []))) refl tt (λ b. b) refl refl
-
--- a minor name may be empty: of names it is only looked at whether they are the system's
-abbrev systemOnly : Step → Bool
-systemOnly s = whileRunning 9 s && every (λ (e : Entry). not (isSystem (e .name))) (s .queue)
-
-pub sound-with-an-empty-name : RuledOut takes sound.Pre sound.Post (λ k a. judged systemOnly a)
-unfolding tables-open
-sound-with-an-empty-name =
-    wrong-at tt (given (entries two (entryFor 1 (exc (named 88 [])) ∷ []))) refl tt (λ b. b) refl refl
-
--- an entry may be for a system name: of names only the lengths are looked at
-abbrev pub lengthsOnly : Step → Bool
-lengthsOnly s = whileRunning 9 s && every (λ (e : Entry). legal (e .name)) (s .queue)
-
-pub sound-with-a-system-name : RuledOut takes sound.Pre sound.Post (λ k a. judged lengthsOnly a)
-unfolding tables-open
-sound-with-a-system-name =
-    wrong-at tt (given (entries two (entryFor 1 (exc sysdsn) ∷ []))) refl tt (λ b. b) refl refl
 
 -- 2, whose entry lacks control, may be ready
 pub sound-with-a-ready-task-that-lacks-control : RuledOut takes sound.Pre sound.Post (λ k a. judged (whileRunning 10) a)

@@ -17,8 +17,7 @@ use Rattle.laws.specs.Served.{service-of-sound}
 use Rattle.history.specs.Samples.{start}
 use Rattle.services.specs.Kept.{tablesOf, servedBy}
 use Rattle.services.specs.declared.Answer.{Answer}
-use Rattle.tables.proofs.Admits.{step-tables}
-use Rattle.services.proofs.Leaves.{sound-kept}
+use Rattle.services.proofs.Names.{step-tables, sound-kept}
 use Rattle.services.proofs.Serves.{sound-serves}
 use Rattle.services.proofs.Tables.fresh.Reads as fresh
 use Rattle.services.proofs.Tables.serve.Reads as serve
@@ -57,7 +56,7 @@ called s a h n = record {
   meets =
       sym
       (sound-serves (tablesOf s) (asked a) (sound-kept s h)
-      ∙ (ap (λ (u : Step). servedBy (ruled u a)) (step-tables s)
+      ∙ (ap (λ (u : Step). servedBy (ruled u a)) (step-tables s h)
       ∙ (λ i. record {
         outcome = record {
           number = (n ∙ sym (done-says (ruled s a .outcome .besides) .0)) i;

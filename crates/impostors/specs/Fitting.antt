@@ -10,12 +10,16 @@ use lib.ListN.{length}
 use denote.Ref.{RefT, now}
 use Rattle.lists.specs.Lists.{every}
 use Rattle.kinds.specs.Limits.{highestTask, longestList, majorBytes, longestMinor, mostEntries, allEcbs, mostAreas}
+use Rattle.kinds.specs.Limits.{nameArea}
 use Rattle.kinds.specs.declared.numbers.TaskNumber.{TaskNumber}
 use Rattle.kinds.specs.declared.numbers.EcbNumber.{EcbNumber}
 use Rattle.kinds.specs.declared.numbers.Address.{Address}
 use Rattle.kinds.specs.declared.names.Name.{Name}
 use Rattle.kinds.specs.declared.names.Wanted.{Wanted}
 use Rattle.kinds.specs.declared.names.NameList.{NameList}
+use Rattle.kinds.specs.declared.names.NameOffset.{NameOffset}
+use Rattle.kinds.specs.declared.names.Pointed.{Pointed}
+use Rattle.kinds.specs.declared.names.PointedList.{PointedList}
 use Rattle.kinds.specs.declared.names.Slot.{Slot}
 use Rattle.kinds.specs.declared.ecbs.Ecb.{Ecb}
 use Rattle.kinds.specs.declared.ecbs.EcbList.{EcbList}
@@ -35,8 +39,11 @@ use Rattle.kinds.specs.declared.replies.Reply.{Reply}
 use Rattle.kinds.specs.declared.replies.Reply.the-variants.{Done, Attached, Got, Dispatched, Counted, Four, Refused}
 use Rattle.kinds.specs.declared.replies.Reply.the-variants.{Failed}
 use Rattle.kinds.specs.declared.replies.Verdict.{Verdict}
+use Rattle.namearea.specs.declared.area.NameArea.{NameArea}
+use Rattle.namearea.specs.declared.points.Points.{Points}
 use Rattle.tasks.specs.declared.TaskTable.{TaskTable}
 use Rattle.queue.specs.declared.Queue.{Queue}
+use Rattle.queue.specs.declared.offsets.Offsets.{Offsets}
 use Rattle.queue.specs.declared.marks.Marks.{Marks}
 use Rattle.queue.specs.declared.looks.Flags.{Flags}
 use Rattle.resources.specs.declared.codes.Codes.{Codes}
@@ -73,6 +80,10 @@ array n p l = eqb (length l) n && every p l
 abbrev pub fits-lent : RefT (List ℕ) → Bool
 fits-lent r = every fits-u8 (now r)
 
+-- offsets that are lent
+abbrev pub fits-offsets : RefT (List ℕ) → Bool
+fits-offsets r = every fits-u16 (now r)
+
 -- KINDS
 
 abbrev pub fits-TaskNumber : TaskNumber → Bool
@@ -93,8 +104,20 @@ fits-Wanted w = fits-Name (w .name)
 abbrev pub fits-NameList : NameList → Bool
 fits-NameList l = fits-u32 (l .count) && array longestList fits-Wanted (l .names)
 
+abbrev pub fits-NameOffset : NameOffset → Bool
+fits-NameOffset o = fits-u16 (o .0)
+
+abbrev pub fits-Pointed : Pointed → Bool
+fits-Pointed w = fits-NameOffset (w .name)
+
+abbrev pub fits-PointedList : PointedList → Bool
+fits-PointedList l = fits-u32 (l .count) && array longestList fits-Pointed (l .names)
+
+abbrev pub fits-Points : Points → Bool
+fits-Points p = fits-PointedList (p .list) && (fits-usize (p .from) && fits-usize (p .end))
+
 abbrev pub fits-Slot : Slot → Bool
-fits-Slot s = fits-TaskNumber (s .task) && fits-Name (s .name)
+fits-Slot s = fits-TaskNumber (s .task) && fits-NameOffset (s .name)
 
 abbrev pub fits-Ecb : Ecb → Bool
 fits-Ecb e = fits-TaskNumber (e .waiter) && fits-u32 (e .code)
@@ -186,8 +209,14 @@ fits-AllTables t =
     (fits-u16 (t .code) && fits-TaskTable (t .tasks))
     && (fits-Queue (t .queue) && (fits-EcbTable (t .ecbs) && fits-Storage (t .storage)))
 
+abbrev pub fits-Offsets : Offsets → Bool
+fits-Offsets o = array mostEntries fits-u16 (o .of)
+
+abbrev pub fits-NameArea : NameArea → Bool
+fits-NameArea a = array nameArea fits-u8 (a .bytes)
+
 abbrev pub fits-Tables : Tables → Bool
-fits-Tables t = fits-AllTables (t .all)
+fits-Tables t = fits-AllTables (t .all) && fits-NameArea (t .names)
 
 -- PARAMETERS, one after the other; none is left
 infixr 60 _⊗_

@@ -134,8 +134,10 @@ abbrev pub grantsAtOnce : Service → Service
 grantsAtOnce f g =
     byService (f g) (f g) (λ c code. f g)
     (back (f g)
-    (inTables (putTasks (f g .answer .tables .all) (taskTableOf (allGo (f g .answer .tables .all .tasks .places))))))
-    (back (f g) (inTables (putTasks (f g .answer .tables .all) (g .tables .all .tasks))))
+    (inTables (putTasks (f g .answer .tables .all) (taskTableOf (allGo (f g .answer .tables .all .tasks .places))))
+    (f g .answer .tables .names .bytes)))
+    (back (f g) (inTables (putTasks (f g .answer .tables .all) (g .tables .all .tasks))
+    (f g .answer .tables .names .bytes)))
     (λ e. f g) (λ c bytes subpool conditional. f g) (f g) (g .asking .request)
 
 -- none of them meets the contract of `serve`

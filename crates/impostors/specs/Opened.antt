@@ -7,7 +7,11 @@ use Rattle.rules.specs.Opened.{rules-open}
 use Rattle.laws.specs.Waking.{wakeAt}
 use Rattle.laws.specs.Wiping.{wipeAt}
 use Rattle.names.specs.Named.{shown}
-use Rattle.queue.specs.Queues.{isFine, isZero, allFine, restZero, packedEntries}
+use Rattle.namearea.specs.Spelling.{spelling, needed, offsetIn, nameAt}
+use Rattle.namearea.specs.Scanning.{fitsAt, newAt, scanned}
+use Rattle.namearea.specs.Areas.{holds}
+use Rattle.namearea.specs.Pointing.{pointsTo, newNames}
+use Rattle.queue.specs.Queues.{isZero, restZero, packedEntries}
 use Rattle.queue.specs.Marking.{markedBy, withMark}
 use Rattle.rings.specs.Listings.{reportReply, reportWritten}
 use Rattle.queue.specs.Flagging.{flagsOf, allSetBut}
@@ -22,12 +26,13 @@ use Rattle.tables.specs.Tables.{soundTables}
 use Rattle.tables.specs.Bodies.{told, bodyOf}
 use Rattle.resources.specs.Coding.{codesOf}
 use Rattle.resources.specs.Looking.{looksOf}
-use Rattle.services.specs.Kept.{answered, answeredWith}
+use Rattle.services.specs.Kept.{soundb, answered, answeredWith}
 use Rattle.services.specs.Serve.{servedOf}
 
 unfoldable pub tables-open : Unit {0}
-unfolding rules-open onceFrom padded taskChecked ecbChecked addressChecked wakeAt wipeAt shown isFine isZero allFine
-    restZero packedEntries markedBy withMark reportReply reportWritten flagsOf allSetBut tallyFrom
+unfolding rules-open onceFrom padded taskChecked ecbChecked addressChecked wakeAt wipeAt shown spelling needed
+    offsetIn nameAt fitsAt newAt scanned holds pointsTo newNames isZero restZero packedEntries markedBy withMark
+    reportReply reportWritten flagsOf allSetBut tallyFrom
     waitedBy isZeroArea restZeroAreas packedAreas barOf nextAt placeFor wakeIf codesOf looksOf signalsOf soundTables
-    told bodyOf answered answeredWith servedOf
+    told bodyOf soundb answered answeredWith servedOf
 tables-open = tt

@@ -11,6 +11,8 @@ use Rattle.kinds.specs.declared.numbers.TaskNumber.{TaskNumber}
 use Rattle.kinds.specs.declared.numbers.EcbNumber.{EcbNumber}
 use Rattle.kinds.specs.declared.names.Wanted.{Wanted}
 use Rattle.kinds.specs.declared.names.NameList.{NameList}
+use Rattle.kinds.specs.declared.names.Pointed.{Pointed}
+use Rattle.kinds.specs.declared.names.PointedList.{PointedList}
 use Rattle.kinds.specs.declared.ecbs.EcbList.{EcbList}
 use Rattle.kinds.specs.declared.tasks.MaybeEcb.{MaybeEcb}
 use Rattle.kinds.specs.declared.tasks.MaybeEcb.the-variants.{NoEcb, Named}
@@ -25,6 +27,7 @@ use Rattle.rules.specs.Steps.{Step, Served}
 use Rattle.rules.specs.Serve.{Asked, serviceOf}
 use Rattle.history.specs.Samples.{x, y}
 use Rattle.names.specs.Named.{kept, namesIn}
+use Rattle.names.specs.Pointers.{pointer, offsetOf}
 use Rattle.ecbs.specs.Blocks.{ecbsIn}
 
 -- LISTS as a request brings them: 16 places, those past the count zero
@@ -40,6 +43,26 @@ nothing = record {
 
 abbrev pub namesOf : List Ask → NameList
 namesOf l = record { count = length l; names = padded longestList nothing (map wanted l) }
+
+-- and as the queue gets them, by their offsets: of names that are pointers
+abbrev pointed : Ask → Pointed
+pointed a = record { exclusive = a .exclusive; name = record { 0 = offsetOf (a .name) } }
+
+abbrev pub pointsOf : List Ask → PointedList
+pointsOf l = record {
+  count = length l;
+  names = padded longestList (record { exclusive = false; name = record { 0 = 0 } }) (map pointed l);
+}
+
+-- three names by their offsets
+abbrev pub xAt : Resource
+xAt = pointer 0
+
+abbrev pub yAt : Resource
+yAt = pointer 10
+
+abbrev pub zAt : Resource
+zAt = pointer 20
 
 abbrev pub task : ℕ → TaskNumber
 task n = record { 0 = n }

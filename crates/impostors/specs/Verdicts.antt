@@ -97,6 +97,15 @@ before101 q c ret l room =
     ∷ short (enqCodesDue ret) room l
     ∷ afterCodes q c ret l)
 
+-- 104 goes first
+abbrev pub shortFirst : Judge Ret
+shortFirst q c ret l room =
+    firstOf
+    (short (enqCodesDue ret) room l
+    ∷ bad (enqGood ret l)
+    ∷ system (asksSystem l)
+    ∷ afterCodes q c ret l)
+
 -- DEQ refuses it too
 abbrev pub deqKeepingOff : Judge DeqRet
 deqKeepingOff q c ret l room =

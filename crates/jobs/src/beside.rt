@@ -5,7 +5,6 @@ use crate::sizes::MOST_LISTED;
 use crate::word;
 use kinds::EcbList;
 use kinds::EcbNumber;
-use kinds::Name;
 use kinds::NameList;
 use kinds::Wanted;
 
@@ -26,29 +25,6 @@ struct Read {
     good: bool,
     wanted: Wanted,
     next: usize,
-}
-
-pub(crate) fn no_names() -> NameList {
-    one_name(name::zero())
-}
-
-// A list that has this name and counts none.
-pub(crate) fn one_name(name: Name) -> NameList {
-    let w = Wanted {
-        exclusive: false,
-        name,
-    };
-    NameList {
-        count: 0,
-        names: [w; NameList::MOST],
-    }
-}
-
-pub(crate) fn no_ecbs() -> EcbList {
-    EcbList {
-        count: 0,
-        ecbs: [EcbNumber(0); NameList::MOST],
-    }
 }
 
 fn none() -> Read {
@@ -102,7 +78,7 @@ fn asked(line: &[u8], at: usize, marks: bool) -> Read {
 
 // The words from `at` on, each with its mark if it has one.
 pub(crate) fn read_names(line: &[u8], at: usize, marks: bool) -> Names {
-    let mut list = no_names();
+    let mut list = NameList::none();
     let mut next = at;
     let mut count: u32 = 0;
     while !word::none_at(line, next) {
@@ -126,7 +102,7 @@ pub(crate) fn read_names(line: &[u8], at: usize, marks: bool) -> Names {
 
 // The words from `at` on.
 pub(crate) fn read_ecbs(line: &[u8], at: usize) -> Ecbs {
-    let mut list = no_ecbs();
+    let mut list = EcbList::none();
     let mut next = at;
     let mut count: u32 = 0;
     while !word::none_at(line, next) {

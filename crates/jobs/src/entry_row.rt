@@ -3,73 +3,44 @@ use crate::poke::EntryField;
 use crate::raw::WIDEST_BYTE;
 use crate::raw::WIDEST_FLAG;
 use crate::raw::WIDEST_HALF;
-use crate::raw::all_zero;
 use crate::raw::flag;
-use kinds::Name;
+use kinds::NameOffset;
 use kinds::Slot;
 use kinds::TaskNumber;
 
 pub(crate) struct RawEntry {
     pub(crate) task: u32,
     pub(crate) excl: u32,
-    pub(crate) length: u32,
-    pub(crate) major: [u8; Name::MAJOR],
-    pub(crate) minor: [u8; Name::LONGEST],
+    pub(crate) name: u32,
 }
 
-// The numbers of a place that the queue can hold, or none. Any bytes can be held.
+// A place that the queue can hold, or none.
 pub(crate) enum HeldEntry {
-    Held {
-        task: TaskNumber,
-        exclusive: bool,
-        length: u16,
-    },
+    Held(Slot),
     NotHeld,
 }
 
 impl RawEntry {
     pub(crate) fn of(x: Slot) -> RawEntry {
-        let name = x.name;
-        let major = name.major;
-        let minor = name.minor;
         RawEntry {
             task: x.task.0 as u32,
             excl: flag(x.exclusive),
-            length: name.length as u32,
-            major,
-            minor,
+            name: x.name.0 as u32,
         }
     }
 
-    // A major or a minor part is that of the name.
-    pub(crate) fn with(self, field: EntryField, value: u32, name: Name) -> RawEntry {
+    pub(crate) fn with(self, field: EntryField, value: u32) -> RawEntry {
         let mut r = self;
         match field {
             EntryField::Task => r.task = value,
             EntryField::Excl => r.excl = value,
-            EntryField::Length => r.length = value,
-            EntryField::Major => {
-                let major = name.major;
-                r.major = major;
-            }
-            EntryField::Minor => {
-                let minor = name.minor;
-                r.minor = minor;
-            }
+            EntryField::Name => r.name = value,
         }
         r
     }
 
     pub(crate) fn is_zero(self) -> bool {
-        if self.task | self.excl | self.length != 0 {
-            return false;
-        }
-        let major = self.major;
-        if !all_zero(&major) {
-            return false;
-        }
-        let minor = self.minor;
-        all_zero(&minor)
+        self.task | self.excl | self.name == 0
     }
 
     pub(crate) fn held(self) -> HeldEntry {
@@ -79,13 +50,14 @@ impl RawEntry {
         if WIDEST_FLAG < self.excl {
             return HeldEntry::NotHeld;
         }
-        if WIDEST_HALF < self.length {
+        if WIDEST_HALF < self.name {
             return HeldEntry::NotHeld;
         }
-        HeldEntry::Held {
+        let x = Slot {
             task: TaskNumber(self.task as u8),
             exclusive: self.excl != 0,
-            length: self.length as u16,
-        }
+            name: NameOffset(self.name as u16),
+        };
+        HeldEntry::Held(x)
     }
 }

@@ -15,11 +15,12 @@ use kinds::Request;
 use kinds::Ret;
 use kinds::TaskNumber;
 
-// A list, or the digits of a part of a name that is poked, is left to be read from `at` on. In an ENQ each name has a
-// mark.
+// A list is left to be read from `at` on. In an ENQ each name has a mark. What is not held is a poke of a field that
+// no table has.
 pub(crate) enum Form {
     Nothing,
     Unreadable,
+    NotHeld,
     Plain(Request),
     Names {
         request: Request,
@@ -37,14 +38,6 @@ pub(crate) enum Form {
         dispatching: u16,
     },
     Poke(Poke),
-    Major {
-        place: u32,
-        at: usize,
-    },
-    Minor {
-        place: u32,
-        at: usize,
-    },
 }
 
 // An empty line, or a remark, asks for nothing.

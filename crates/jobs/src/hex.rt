@@ -38,3 +38,23 @@ pub(crate) fn byte(line: &[u8], at: usize) -> u16
     }
     high * BASE as u16 + low
 }
+
+// How many bytes the line has in digits from `at` to its end; 0 where something else is among them.
+pub(crate) fn count(line: &[u8], at: usize) -> usize {
+    if line.len() < at {
+        return 0;
+    }
+    let digits = line.len() - at;
+    if digits % 2 != 0 {
+        return 0;
+    }
+    let count = digits / 2;
+    let mut i: usize = 0;
+    while i < count {
+        if NONE <= byte(line, at + 2 * i) {
+            return 0;
+        }
+        i += 1;
+    }
+    count
+}

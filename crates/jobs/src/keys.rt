@@ -64,6 +64,8 @@ pub(crate) const ECB: u64 = 0x656362;
 
 pub(crate) const AREA: u64 = 0x61726561;
 
+pub(crate) const NAME: u64 = 0x6e616d65;
+
 pub(crate) const OVER: u64 = 0x6f766572;
 
 pub(crate) const CODE: u64 = 0x636f6465;

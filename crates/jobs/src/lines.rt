@@ -1,8 +1,9 @@
 // The lines of a dump, one for each place that has a field not zero:
-// a word, the place's number and the raw fields, one space between.
+// a word, the place's number and the raw fields, one space between. The names are one line.
 use crate::area_row::RawArea;
 use crate::ecb_row::RawEcb;
 use crate::entry_row::RawEntry;
+use crate::raw::used;
 use crate::sizes::BLOCK;
 use crate::task_row::RawTask;
 use crate::text::put;
@@ -61,15 +62,24 @@ pub(crate) fn put_entry(out: &mut [u8; BLOCK], at: usize, n: u32, r: RawEntry) -
     if r.is_zero() {
         return at;
     }
-    let major = r.major;
-    let minor = r.minor;
     let k = put(out, at, b"entry");
     let k = put_field(out, k, n);
     let k = put_field(out, k, r.task);
     let k = put_field(out, k, r.excl);
-    let k = put_hex_field(out, k, &major);
-    let k = put_field(out, k, r.length);
-    let k = put_hex_field(out, k, &minor);
+    let k = put_field(out, k, r.name);
+    put_byte(out, k, b'\n')
+}
+
+// The name area up to its last byte that is not zero.
+pub(crate) fn put_names(out: &mut [u8; BLOCK], at: usize, names: &[u8]) -> usize
+    ensures { λ r. ⌜ Kept at r ⌝ }
+{
+    let n = used(names);
+    if n == 0 {
+        return at;
+    }
+    let k = put(out, at, b"names");
+    let k = put_hex_field(out, k, &names[..n]);
     put_byte(out, k, b'\n')
 }
 

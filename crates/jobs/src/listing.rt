@@ -6,6 +6,7 @@ use crate::lines::put_area;
 use crate::lines::put_ecb;
 use crate::lines::put_entry;
 use crate::lines::put_field;
+use crate::lines::put_names;
 use crate::lines::put_step;
 use crate::lines::put_task;
 use crate::raw::flag;
@@ -92,6 +93,7 @@ pub(crate) fn dump(t: Tables, out: &mut [u8; BLOCK], at: usize) -> usize
     let k = put_step(out, at, flag(a.over), a.code as u32);
     let k = put_tasks(a.tasks, out, k);
     let k = put_entries(a.queue, out, k);
+    let k = put_names(out, k, &t.names.bytes);
     let k = put_ecbs(a.ecbs, out, k);
     let k = put_areas(a.storage, out, k);
     put(out, k, b".\n")

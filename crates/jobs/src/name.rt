@@ -4,7 +4,6 @@ use crate::hex;
 use crate::number;
 use crate::sizes::HIGHEST_LENGTH;
 use crate::sizes::MAJOR_DIGITS;
-use crate::sizes::MINOR_DIGITS;
 use crate::sizes::MOST_GIVEN;
 use crate::word;
 use kinds::Name;
@@ -74,7 +73,7 @@ fn read_minor(line: &[u8], at: usize, count: usize, most: usize) -> Minor
     Minor { good: true, bytes }
 }
 
-pub(crate) fn least(a: usize, b: usize) -> usize
+fn least(a: usize, b: usize) -> usize
     ensures { λ r. ⌜ r ≤ b ⌝ }
 {
     if a < b { a } else { b }
@@ -181,43 +180,5 @@ fn minor_of(line: &[u8], from: usize, end: usize, major: [u8; Name::MAJOR]) -> N
             length: length.value,
         },
         next: end + 1,
-    }
-}
-
-// The last word of a line, as a major part; the rest of the name is zero.
-pub(crate) fn major_word(line: &[u8], at: usize) -> Named {
-    if line.len() < at {
-        return none();
-    }
-    if line.len() - at != MAJOR_DIGITS {
-        return none();
-    }
-    let m = read_major(line, at);
-    let bytes = m.bytes;
-    let mut name = zero();
-    name.major = bytes;
-    Named {
-        good: m.good,
-        name,
-        next: 0,
-    }
-}
-
-// The last word of a line, as a whole minor part.
-pub(crate) fn minor_word(line: &[u8], at: usize) -> Named {
-    if line.len() < at {
-        return none();
-    }
-    if line.len() - at != MINOR_DIGITS {
-        return none();
-    }
-    let m = read_minor(line, at, Name::LONGEST, Name::LONGEST);
-    let bytes = m.bytes;
-    let mut name = zero();
-    name.minor = bytes;
-    Named {
-        good: m.good,
-        name,
-        next: 0,
     }
 }

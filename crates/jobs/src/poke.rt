@@ -1,4 +1,4 @@
-// A poke: one raw field of the tables is overwritten.
+// A poke: one raw field of the tables is overwritten, or bytes of the name area.
 pub(crate) enum TaskField {
     State,
     Mother,
@@ -10,13 +10,10 @@ pub(crate) enum TaskField {
     Need,
 }
 
-// A major or a minor part is no number, and stands beside the poke.
 pub(crate) enum EntryField {
     Task,
     Excl,
-    Length,
-    Major,
-    Minor,
+    Name,
 }
 
 pub(crate) enum EcbField {
@@ -33,7 +30,8 @@ pub(crate) enum AreaField {
     Owner,
 }
 
-// The two fields of the step, or one of a place. `at` is the place in its table: that of task n is n - 1.
+// The two fields of the step, or one of a place. `at` is the place in its table: that of task n is n - 1. Or `count`
+// bytes of the name area from `at` on: their digits end the line, and are read there again when they are written.
 pub(crate) enum Poke {
     Over(u32),
     Code(u32),
@@ -56,5 +54,9 @@ pub(crate) enum Poke {
         at: usize,
         field: AreaField,
         value: u32,
+    },
+    Name {
+        at: usize,
+        count: usize,
     },
 }

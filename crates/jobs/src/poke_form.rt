@@ -1,5 +1,6 @@
 // What a line that pokes asks for: the words after `poke`.
 use crate::form::Form;
+use crate::hex;
 use crate::keys;
 use crate::number;
 use crate::number::Number;
@@ -8,11 +9,15 @@ use crate::poke::EcbField;
 use crate::poke::EntryField;
 use crate::poke::Poke;
 use crate::poke::TaskField;
+use crate::sizes::MOST_POKED;
+use crate::sizes::POKED_MINOR;
 use crate::word;
 use kinds::Area;
 use kinds::EcbNumber;
+use kinds::Name;
 use kinds::Slot;
 use kinds::TaskNumber;
+use namearea::NameArea;
 
 pub(crate) fn read(line: &[u8], at: usize) -> Form {
     let table = word::key(line, at);
@@ -24,26 +29,56 @@ pub(crate) fn read(line: &[u8], at: usize) -> Form {
     if !n.good {
         return Form::Unreadable;
     }
-    of_place(line, n.next, table, n.value)
+    let place = n.value as usize;
+    if table == keys::NAME {
+        return name_bytes(place, hex::count(line, n.next));
+    }
+    of_place(line, n.next, table, place)
 }
 
 // The field of a place, and then its value.
-fn of_place(line: &[u8], at: usize, table: u64, place: u32) -> Form {
+fn of_place(line: &[u8], at: usize, table: u64, place: usize) -> Form {
     let field = word::key(line, at);
     let from = word::after(line, at);
     if table == keys::ENTRY {
         if field == keys::MAJOR {
-            return Form::Major { place, at: from };
+            return part(place, hex::count(line, from), Name::MAJOR);
         }
         if field == keys::MINOR {
-            return Form::Minor { place, at: from };
+            return part(place, hex::count(line, from), POKED_MINOR);
         }
     }
     let v = last_number(line, from);
     if !v.good {
         return Form::Unreadable;
     }
-    of_table(table, place as usize, field, v.value)
+    of_table(table, place, field, v.value)
+}
+
+// Bytes of the name area, which has room for all of them.
+fn name_bytes(at: usize, count: usize) -> Form {
+    if count == 0 {
+        return Form::Unreadable;
+    }
+    if MOST_POKED < count {
+        return Form::Unreadable;
+    }
+    if NameArea::BYTES - count < at {
+        return Form::Unreadable;
+    }
+    Form::Poke(Poke::Name { at, count })
+}
+
+// A poke of a major or a minor part, which no entry has any more. It is still read whole, so that only a poke of one is
+// told that it is not held, and any other line is unreadable.
+fn part(place: usize, count: usize, whole: usize) -> Form {
+    if Slot::PLACES <= place {
+        return Form::Unreadable;
+    }
+    if count != whole {
+        return Form::Unreadable;
+    }
+    Form::NotHeld
 }
 
 fn of_table(table: u64, place: usize, field: u64, value: u32) -> Form {
@@ -110,7 +145,9 @@ fn entry(at: usize, field: u64, value: u32) -> Form {
     match field {
         keys::TASK => of_entry(at, EntryField::Task, value),
         keys::EXCL => of_entry(at, EntryField::Excl, value),
-        keys::LENGTH => of_entry(at, EntryField::Length, value),
+        keys::NAME => of_entry(at, EntryField::Name, value),
+        // its name has the length
+        keys::LENGTH => Form::NotHeld,
         _ => Form::Unreadable,
     }
 }

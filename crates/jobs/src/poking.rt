@@ -1,10 +1,12 @@
-// Pokes carried out: a place to raw fields, one of them overwritten, and back where the tables can hold it.
+// Pokes carried out: a place to raw fields, one of them overwritten, and back where the tables can hold it; bytes into
+// the name area.
 use crate::area_row::HeldArea;
 use crate::area_row::RawArea;
 use crate::ecb_row::HeldEcb;
 use crate::ecb_row::RawEcb;
 use crate::entry_row::HeldEntry;
 use crate::entry_row::RawEntry;
+use crate::hex;
 use crate::poke::AreaField;
 use crate::poke::EcbField;
 use crate::poke::EntryField;
@@ -17,39 +19,71 @@ use crate::task_row::HeldTask;
 use crate::task_row::RawTask;
 use kinds::Area;
 use kinds::EcbNumber;
-use kinds::Name;
-use kinds::NameList;
 use kinds::Slot;
 use kinds::TaskNumber;
+use namearea::NameArea;
 use queue::Queue;
-use services::Tables;
 use storage::Storage;
 use tables::AllTables;
+ghost use Prim.Native.Nat.{_≤_};
+ghost use lib.ListN.{length};
 
 // The tables as they are left, and what is said of it. Where they cannot hold what is poked they are as they were.
 pub(crate) struct Left {
-    pub(crate) tables: Tables,
+    pub(crate) all: AllTables,
     pub(crate) said: Said,
 }
 
-// A part of a name that is poked is that of the first of the names.
-pub(crate) fn poked(tables: Tables, poke: Poke, names: NameList) -> Left {
-    let t = tables.all;
+// The line that pokes ends at `end` of the block.
+pub(crate) fn poked(
+    t: AllTables,
+    names: &mut [u8; NameArea::BYTES],
+    poke: Poke,
+    block: &[u8],
+    end: usize,
+) -> Left
+    requires { ⌜ end ≤ length (now block) ⌝ }
+{
     match poke {
         Poke::Over(value) => poked_over(t, value),
         Poke::Code(value) => poked_code(t, value),
         Poke::Task { at, field, value } => poked_task(t, at, field, value),
-        Poke::Entry { at, field, value } => poked_entry(t, at, field, value, names),
+        Poke::Entry { at, field, value } => poked_entry(t, at, field, value),
         Poke::Ecb { at, field, value } => poked_ecb(t, at, field, value),
         Poke::Area { at, field, value } => poked_area(t, at, field, value),
+        Poke::Name { at, count } => {
+            let said = poked_name(names, at, count, block, end);
+            Left { all: t, said }
+        }
     }
 }
 
-fn leaving(t: AllTables, said: Said) -> Left {
-    Left {
-        tables: Tables { all: t },
-        said,
+// The bytes whose digits end at `end`. They were read as digits, as many as the line has, and for a place in the area.
+fn poked_name(
+    names: &mut [u8; NameArea::BYTES],
+    at: usize,
+    count: usize,
+    block: &[u8],
+    end: usize,
+) -> Said
+    requires { ⌜ end ≤ length (now block) ⌝ }
+{
+    if NameArea::BYTES < count {
+        return Said::NotHeld;
     }
+    if NameArea::BYTES - count < at {
+        return Said::NotHeld;
+    }
+    if end < 2 * count {
+        return Said::NotHeld;
+    }
+    let first = end - 2 * count;
+    let mut i: usize = 0;
+    while i < count {
+        names[at + i] = (hex::byte(block, first + 2 * i) % hex::NONE) as u8;
+        i += 1;
+    }
+    Said::Ok
 }
 
 fn poked_over(t: AllTables, value: u32) -> Left {
@@ -59,7 +93,7 @@ fn poked_over(t: AllTables, value: u32) -> Left {
         r.over = value != 0;
         said = Said::Ok;
     }
-    leaving(r, said)
+    Left { all: r, said }
 }
 
 fn poked_code(t: AllTables, value: u32) -> Left {
@@ -69,7 +103,7 @@ fn poked_code(t: AllTables, value: u32) -> Left {
         r.code = value as u16;
         said = Said::Ok;
     }
-    leaving(r, said)
+    Left { all: r, said }
 }
 
 fn poked_task(t: AllTables, at: usize, field: TaskField, value: u32) -> Left {
@@ -82,38 +116,27 @@ fn poked_task(t: AllTables, at: usize, field: TaskField, value: u32) -> Left {
             said = Said::Ok;
         }
     }
-    leaving(tables::put_tasks(t, f), said)
+    Left {
+        all: tables::put_tasks(t, f),
+        said,
+    }
 }
 
-fn poked_entry(t: AllTables, at: usize, field: EntryField, value: u32, names: NameList) -> Left {
-    let w = names.names[0];
-    let given = w.name;
+fn poked_entry(t: AllTables, at: usize, field: EntryField, value: u32) -> Left {
     let mut q = t.queue;
     let mut said = Said::NotHeld;
     if at < Slot::PLACES {
-        let x = RawEntry::of(q.slots[at]).with(field, value, given);
-        if let HeldEntry::Held {
-            task,
-            exclusive,
-            length,
-        } = x.held() {
-            let major = x.major;
-            let minor = x.minor;
-            let name = Name {
-                major,
-                minor,
-                length,
-            };
-            q.slots[at] = Slot {
-                task,
-                exclusive,
-                name,
-            };
+        let x = RawEntry::of(q.slots[at]).with(field, value);
+        if let HeldEntry::Held(y) = x.held() {
+            q.slots[at] = y;
             q.count = used_slots(q);
             said = Said::Ok;
         }
     }
-    leaving(tables::put_queue(t, q), said)
+    Left {
+        all: tables::put_queue(t, q),
+        said,
+    }
 }
 
 fn poked_ecb(t: AllTables, at: usize, field: EcbField, value: u32) -> Left {
@@ -126,7 +149,10 @@ fn poked_ecb(t: AllTables, at: usize, field: EcbField, value: u32) -> Left {
             said = Said::Ok;
         }
     }
-    leaving(tables::put_ecbs(t, e), said)
+    Left {
+        all: tables::put_ecbs(t, e),
+        said,
+    }
 }
 
 fn poked_area(t: AllTables, at: usize, field: AreaField, value: u32) -> Left {
@@ -140,7 +166,10 @@ fn poked_area(t: AllTables, at: usize, field: AreaField, value: u32) -> Left {
             said = Said::Ok;
         }
     }
-    leaving(tables::put_storage(t, s), said)
+    Left {
+        all: tables::put_storage(t, s),
+        said,
+    }
 }
 
 // One more than the highest place with a field not zero.

@@ -1,4 +1,7 @@
-// Raw fields: the widest numbers that the tables keep, and what a flag or bytes count as.
+// Raw fields: the widest numbers that the tables keep, what a flag counts as, and how many bytes are in use.
+ghost use Prim.Native.Nat.{_≤_};
+ghost use lib.ListN.{length};
+
 pub(crate) const WIDEST_FLAG: u32 = 1;
 
 pub(crate) const WIDEST_BYTE: u32 = u8::MAX as u32;
@@ -9,13 +12,16 @@ pub(crate) fn flag(b: bool) -> u32 {
     if b { 1 } else { 0 }
 }
 
-pub(crate) fn all_zero(bytes: &[u8]) -> bool {
-    let mut i = 0;
-    while i < bytes.len() {
-        if bytes[i] != 0 {
-            return false;
+// The bytes up to the last that is not zero.
+pub(crate) fn used(bytes: &[u8]) -> usize
+    ensures { λ r. ⌜ r ≤ length (now (bytes .entry)) ⌝ }
+{
+    let mut n = bytes.len();
+    while 0 < n {
+        if bytes[n - 1] != 0 {
+            return n;
         }
-        i += 1;
+        n -= 1;
     }
-    true
+    0
 }

@@ -3,6 +3,7 @@ use crate::input;
 use crate::listing;
 use crate::listing::UNWRITTEN;
 use crate::poking;
+use crate::poking::Left;
 use crate::saying;
 use crate::sizes::BLOCK;
 use crate::sizes::HIGHEST_LINE;
@@ -49,9 +50,9 @@ pub fn run() -> bool {
                 at = listing::answer(reply, &mut out, at);
             }
             What::Poke(poke) => {
-                let r = poking::poked(tables, poke, asked.names);
-                tables = r.tables;
-                let said = r.said;
+                let r = poking::poked(tables.all, &mut tables.names.bytes, poke, &block, s.to);
+                let Left { all, said } = r;
+                tables.all = all;
                 at = saying::say(said, number, &mut out, at);
             }
             What::Show(shows) => at = shows.put(tables, &mut out, at),

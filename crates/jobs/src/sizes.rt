@@ -31,9 +31,13 @@ pub(crate) const HIGHEST_LENGTH: u32 = 300;
 // The number of the last line that is read.
 pub(crate) const HIGHEST_LINE: u64 = u64::MAX - 1;
 
-// The digits of a major part, of a whole minor part, and of a minor part that is given.
+// The digits of a major part, and of a minor part that is given.
 pub(crate) const MAJOR_DIGITS: usize = 2 * Name::MAJOR;
 
-pub(crate) const MINOR_DIGITS: usize = 2 * Name::LONGEST;
-
 pub(crate) const MOST_GIVEN: usize = 2 * HIGHEST_LENGTH as usize;
+
+// A line that pokes more bytes of the name area is not readable.
+pub(crate) const MOST_POKED: usize = 300;
+
+// The bytes of a minor part in a poke of an entry, which keeps none any more.
+pub(crate) const POKED_MINOR: usize = 44;

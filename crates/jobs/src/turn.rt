@@ -3,9 +3,6 @@
 use crate::beside;
 use crate::form;
 use crate::form::Form;
-use crate::name;
-use crate::name::Named;
-use crate::poke::EntryField;
 use crate::poke::Poke;
 use crate::saying::Said;
 use crate::shows::Shows;
@@ -13,7 +10,6 @@ use crate::sizes::MOST_CODES;
 use kinds::EcbList;
 use kinds::NameList;
 use kinds::Request;
-use kinds::Slot;
 ghost use Prim.Native.Nat.{_≤_};
 ghost use lib.ListN.{length};
 ghost use Rattle.jobs.specs.Sizes.{mostCodes};
@@ -28,8 +24,7 @@ pub(crate) enum What {
     Show(Shows),
 }
 
-// The lists of a request, and the length of its codes area. A poke of
-// a major or a minor part has it in the first of the names.
+// The lists of a request, and the length of its codes area.
 pub(crate) struct Asked {
     pub(crate) what: What,
     pub(crate) names: NameList,
@@ -51,6 +46,7 @@ fn of_line(line: &[u8]) -> Asked
     match form::read(line) {
         Form::Nothing => alone(What::Say(Said::Nothing)),
         Form::Unreadable => unreadable(),
+        Form::NotHeld => alone(What::Say(Said::NotHeld)),
         Form::Plain(request) => alone(What::Request(request)),
         Form::Names {
             request,
@@ -62,8 +58,6 @@ fn of_line(line: &[u8]) -> Asked
         Form::Show(shows) => alone(What::Show(shows)),
         Form::Fresh { limit, dispatching } => alone(What::Fresh { limit, dispatching }),
         Form::Poke(poke) => alone(What::Poke(poke)),
-        Form::Major { place, at } => part(place, EntryField::Major, name::major_word(line, at)),
-        Form::Minor { place, at } => part(place, EntryField::Minor, name::minor_word(line, at)),
     }
 }
 
@@ -73,8 +67,8 @@ fn alone(what: What) -> Asked
 {
     Asked {
         what,
-        names: beside::no_names(),
-        ecbs: beside::no_ecbs(),
+        names: NameList::none(),
+        ecbs: EcbList::none(),
         length: 0,
     }
 }
@@ -100,7 +94,7 @@ fn with_names(line: &[u8], at: usize, marks: bool, request: Request, codes: u32)
     Asked {
         what: What::Request(request),
         names,
-        ecbs: beside::no_ecbs(),
+        ecbs: EcbList::none(),
         length: codes as usize,
     }
 }
@@ -116,32 +110,8 @@ fn with_ecbs(line: &[u8], at: usize, request: Request) -> Asked
     let ecbs = e.list;
     Asked {
         what: What::Request(request),
-        names: beside::no_names(),
+        names: NameList::none(),
         ecbs,
-        length: 0,
-    }
-}
-
-// A poke of a name's part.
-fn part(place: u32, field: EntryField, n: Named) -> Asked
-    ensures { λ r. ⌜ r .length ≤ mostCodes ⌝ }
-{
-    if Slot::PLACES <= place as usize {
-        return unreadable();
-    }
-    if !n.good {
-        return unreadable();
-    }
-    let name = n.name;
-    let poke = Poke::Entry {
-        at: place as usize,
-        field,
-        value: 0,
-    };
-    Asked {
-        what: What::Poke(poke),
-        names: beside::one_name(name),
-        ecbs: beside::no_ecbs(),
         length: 0,
     }
 }

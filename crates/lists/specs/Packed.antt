@@ -110,12 +110,6 @@ module _ {T A B : Type 0} (k : Table T A B) where
   pub stored-count : (l : List B) (t : T) → t ≡ stored l → count t ≡ length l
   stored-count l t e = rows-count (rows l) t e ∙ rows-length l
 
-  pub append-stored : (l : List B) (b : B) (a : A) (s t : T) → rows (b ∷ []) ≡ a ∷ [] → length l < size → t ≡ stored l
-      → s ≡ appended t a → s ≡ stored (l ++ (b ∷ []))
-  append-stored l b a s t h k e f =
-      append-row (rows l) a s t (rw (rows-length l) k) e f
-      ∙ ap rowsOf (sym (joined l (b ∷ []) ∙ ap (λ (m : List A). rows l ++ m) h))
-
   -- an array bounds its list, which is as long as the count says where that is within the array
   module _ (t : T) (n : length (array t) ≡ size) where
     pub live-few : length (live t) ≤ size

@@ -1,4 +1,3 @@
 pub mod Shown
-pub mod Cleaning
 pub mod Listed
 pub mod Promises

@@ -4,7 +4,6 @@ use Rattle.lists.specs.Promise.{Once}
 use Rattle.names.proofs.same_name.Reads as same-name
 use Rattle.names.proofs.is_legal.Reads as is-legal
 use Rattle.names.proofs.is_system.Reads as is-system
-use Rattle.names.proofs.clean.Reads as clean
 use Rattle.names.proofs.list.names_good.Reads as names-good
 use Rattle.names.proofs.list.asks_shared.Reads as asks-shared
 use Rattle.names.proofs.list.asks_system.Reads as asks-system
@@ -17,9 +16,6 @@ is-legal-once k a x y e d p q = p ∙ sym q
 
 pub is-system-once : Once is-system.Post
 is-system-once k a x y e d p q = p ∙ sym q
-
-pub clean-once : Once clean.Post
-clean-once k a x y e d p q = p ∙ sym q
 
 pub names-good-once : Once names-good.Post
 names-good-once k a x y e d p q = p ∙ sym q

@@ -3,10 +3,10 @@ pub mod list;
 
 use kinds::Name;
 ghost use mathlib.Core.Path.{_≡_};
-ghost use Prim.Native.Nat.{_≤_, min};
+ghost use Prim.Native.Nat.{min};
 ghost use Rattle.kinds.specs.Limits.{longestMinor};
 ghost use Rattle.rules.specs.Names.{sameName, legal, isSystem};
-ghost use Rattle.names.specs.Named.{resourceOf, kept};
+ghost use Rattle.names.specs.Named.{resourceOf};
 
 // How many bytes of the array stand for a minor part of that length.
 fn used(length: u16) -> usize
@@ -52,25 +52,4 @@ pub fn is_system(n: Name) -> bool
     let system = Name::SYSTEM;
     let k = system.len();
     lists::same_bytes(&major[..k], &system)
-}
-
-// The name with the bytes past its length zero, as the queue keeps it.
-pub fn clean(n: Name) -> Name
-    requires { ⌜ n .length ≤ longestMinor ⌝ }
-    ensures { λ r. ⌜ r ≡ kept (resourceOf n) ⌝ }
-{
-    let major = n.major;
-    let bytes = n.minor;
-    let used = n.length as usize;
-    let mut minor = [0u8; Name::LONGEST];
-    let mut i = 0;
-    while i < used {
-        minor[i] = bytes[i];
-        i += 1;
-    }
-    Name {
-        major,
-        minor,
-        length: n.length,
-    }
 }

@@ -1,32 +1,25 @@
 -- CHNG in place: a task's slots for some names made exclusive, one after the other.
-use mathlib.Core.Path.{_≡_, sym, ap, _∙_}
+use mathlib.Core.Path.{_≡_, refl, sym, ap, _∙_}
 use mathlib.Core.Bool.{Bool, _||_}
-use mathlib.Core.List.{List, _++_, map}
+use mathlib.Core.List.{List, [], _∷_, _++_, map}
 use Prim.Native.Nat.{ℕ, _+_, _<_}
 use lib.ListN.{length, getD, take, drop, set}
 use Rattle.lists.specs.Changing.{changed-at, changed-next}
 use Rattle.kinds.specs.declared.names.Slot.{Slot}
-use Rattle.names.specs.Named.{kept}
 use Rattle.rules.specs.Names.{Resource}
 use Rattle.rules.specs.Control.{Entry, isForOne}
 use Rattle.rules.specs.Enq.{madeExclusive}
-use Rattle.queue.specs.Queues.{entryOf, slotOf}
-use Rattle.queue.proofs.Views.{entry-slot}
+use Rattle.queue.specs.Queues.{entryOf}
 
 unfoldable pub exclusiveSlot : ℕ → List Resource → Slot → Slot
 exclusiveSlot t ns s = record { task = s .task; exclusive = isForOne t ns (entryOf s) || s .exclusive; name = s .name }
 
--- it keeps what the rule makes of the entry
-pub exclusive-kept : (t : ℕ) (ns : List Resource) (e : Entry)
-    → exclusiveSlot t ns (slotOf e) ≡ slotOf (madeExclusive t ns e)
+-- the slots show what the rule makes of the entries
+pub exclusive-shown : (t : ℕ) (ns : List Resource) (l : List Slot)
+    → map entryOf (map (exclusiveSlot t ns) l) ≡ map (madeExclusive t ns) (map entryOf l)
 unfolding exclusiveSlot madeExclusive
-exclusive-kept t ns e =
-    λ i. record {
-      task = record { 0 = e .task };
-      exclusive = isForOne t ns
-          (entry-slot e i) || e .exclusive;
-      name = kept (e .name);
-    }
+exclusive-shown t ns [] = refl
+exclusive-shown t ns (s ∷ l) = ap (λ (r : List Entry). entryOf (exclusiveSlot t ns s) ∷ r) (exclusive-shown t ns l)
 
 -- the next slot, of which the search tells whether it is the task's for one of the names
 pub exclusive-next : (t : ℕ) (ns : List Resource) (es rs : List Slot) (i : ℕ) (d : Slot) (found : Bool) → i < length es

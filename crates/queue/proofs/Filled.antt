@@ -7,8 +7,8 @@ use lib.ListN.{length, getD, take, set, replicate, length-map, length-set, lengt
 use Rattle.lists.specs.Tables.{padded}
 use Rattle.lists.specs.Filling.{fill-next}
 use Rattle.kinds.specs.Limits.{longestList}
-use Rattle.kinds.specs.declared.names.Wanted.{Wanted}
-use Rattle.names.specs.Named.{askOf}
+use Rattle.kinds.specs.declared.names.Pointed.{Pointed}
+use Rattle.names.specs.Pointers.{pointedAsk}
 use Rattle.rules.specs.Names.{Ask}
 
 -- the first i elements of a list have filled their places, and the others are zero
@@ -32,9 +32,9 @@ module _ {A B : Type 0} (z : B) (f : A → B) (xs : List A) where
   filled-all i n r e v = v .full ∙ ap (λ (k : ℕ). padded longestList z (map f (take k xs))) e
 
 -- the same from what a request asks for
-pub ask-next : {B : Type 0} (z : B) (f : Ask → B) (ws : List Wanted) (i : ℕ) (d : Wanted) (r : List B) (b : B)
-    → i < longestList → length ws ≡ longestList → f (askOf (getD ws i d)) ≡ b
-    → Filled z f (map askOf ws) i r → Filled z f (map askOf ws) (i + 1) (set r i b)
+pub ask-next : {B : Type 0} (z : B) (f : Ask → B) (ws : List Pointed) (i : ℕ) (d : Pointed) (r : List B) (b : B)
+    → i < longestList → length ws ≡ longestList → f (pointedAsk (getD ws i d)) ≡ b
+    → Filled z f (map pointedAsk ws) i r → Filled z f (map pointedAsk ws) (i + 1) (set r i b)
 ask-next z f ws i d r b h k e v =
-    filled-next z f (map askOf ws) i (askOf d) r b h (omega (arith, length-map ws askOf))
-    (ap f (List·getD-map askOf ws i d) ∙ e) v
+    filled-next z f (map pointedAsk ws) i (pointedAsk d) r b h (omega (arith, length-map ws pointedAsk))
+    (ap f (List·getD-map pointedAsk ws i d) ∙ e) v

@@ -15,9 +15,9 @@ use Rattle.lists.specs.Every.{slice-view, every-of}
 use Rattle.lists.specs.Filling.{filled-at}
 use Rattle.kinds.specs.Limits.{longestList}
 use Rattle.kinds.specs.declared.names.Slot.{Slot}
-use Rattle.kinds.specs.declared.names.Wanted.{Wanted}
-use Rattle.kinds.specs.declared.names.NameList.{NameList}
-use Rattle.names.specs.Named.{askOf, namesIn}
+use Rattle.kinds.specs.declared.names.Pointed.{Pointed}
+use Rattle.kinds.specs.declared.names.PointedList.{PointedList}
+use Rattle.names.specs.Pointers.{pointedAsk, pointedIn}
 use Rattle.rules.specs.Names.{Ask}
 use Rattle.rules.specs.Control.{Entry, control, available}
 use Rattle.queue.specs.Queues.{entryOf}
@@ -26,23 +26,24 @@ use Rattle.queue.proofs.Filled.{Filled, filled-all}
 use Rattle.queue.specs.declared.looks.Flags.{Flags}
 
 -- the names within the count are as many as it says
-pub asks-length : (l : NameList) → l .count ≤ length (l .names) → length (namesIn l .asks) ≡ l .count
-asks-length l h = length-take-le (l .count) (map askOf (l .names)) (rw (length-map (l .names) askOf) h)
+pub asks-length : (l : PointedList) → l .count ≤ length (l .names) → length (pointedIn l .asks) ≡ l .count
+asks-length l h = length-take-le (l .count) (map pointedAsk (l .names)) (rw (length-map (l .names) pointedAsk) h)
 
-pub flags-are : (f : Ask → Bool) (l : NameList) (i : ℕ) (r : Flags) → i ≡ l .count
-    → Filled false f (map askOf (l .names)) i (r .of) → r ≡ flagsOf f (namesIn l)
+pub flags-are : (f : Ask → Bool) (l : PointedList) (i : ℕ) (r : Flags) → i ≡ l .count
+    → Filled false f (map pointedAsk (l .names)) i (r .of) → r ≡ flagsOf f (pointedIn l)
 unfolding flagsOf
-flags-are f l i r e v = λ j. record { of = filled-all false f (map askOf (l .names)) i (l .count) (r .of) e v j }
+flags-are f l i r e v = λ j. record { of = filled-all false f (map pointedAsk (l .names)) i (l .count) (r .of) e v j }
 
 -- the flag of one name
-pub flag-at : (f : Ask → Bool) (l : NameList) (r : Flags) (i : ℕ) (d : Wanted) (e : Bool) → r ≡ flagsOf f (namesIn l)
-    → i < l .count → l .count ≤ length (l .names) → getD (r .of) i e ≡ f (askOf (getD (l .names) i d))
+pub flag-at : (f : Ask → Bool) (l : PointedList) (r : Flags) (i : ℕ) (d : Pointed) (e : Bool)
+    → r ≡ flagsOf f (pointedIn l) → i < l .count → l .count ≤ length (l .names)
+    → getD (r .of) i e ≡ f (pointedAsk (getD (l .names) i d))
 unfolding flagsOf
 flag-at f l r i d e v h k =
-    let n : l .count ≤ length (map askOf (l .names)) = rw length-map k in
+    let n : l .count ≤ length (map pointedAsk (l .names)) = rw length-map k in
     ap (λ (x : Flags). getD (x .of) i e) v
-    ∙ filled-at f longestList false (map askOf (l .names)) (l .count) i (askOf d) e h n
-    ∙ ap f (List·getD-map askOf (l .names) i d)
+    ∙ filled-at f longestList false (map pointedAsk (l .names)) (l .count) i (pointedAsk d) e h n
+    ∙ ap f (List·getD-map pointedAsk (l .names) i d)
 
 -- a request is tested as an entry at the tail would be
 pub tail-available : (q : List Entry) (t : ℕ) (a : Ask)
@@ -74,20 +75,21 @@ module _ (f : Entry → Bool) (es : List Slot) (n : ℕ) where
   sought-end j false h k v = v ∙ rw (run-out j n true h refl k) (ap (some f) (slice-empty n (map entryOf es)))
 
 -- the flags of all names
-module _ (f : Ask → Bool) (l : NameList) (r : Flags) (e : r ≡ flagsOf f (namesIn l))
+module _ (f : Ask → Bool) (l : PointedList) (r : Flags) (e : r ≡ flagsOf f (pointedIn l))
     (h : l .count ≤ length (l .names)) where
-  flags-taken : take (l .count) (r .of) ≡ map f (namesIn l .asks)
+  flags-taken : take (l .count) (r .of) ≡ map f (pointedIn l .asks)
   unfolding flagsOf
   flags-taken =
-      let n : l .count ≡ length (map f (namesIn l .asks)) = sym (length-map (namesIn l .asks) f ∙ asks-length l h) in
+      let n : l .count ≡ length (map f (pointedIn l .asks)) =
+      sym (length-map (pointedIn l .asks) f ∙ asks-length l h) in
       ap (λ (x : Flags). take (l .count) (x .of)) e
-      ∙ ap (λ (k : ℕ). take k (padded longestList false (map f (namesIn l .asks)))) n
-      ∙ padded-take longestList false (map f (namesIn l .asks))
+      ∙ ap (λ (k : ℕ). take k (padded longestList false (map f (pointedIn l .asks)))) n
+      ∙ padded-take longestList false (map f (pointedIn l .asks))
 
   -- all are set but those that are skipped
-  pub flags-but : (skip : Flags) → allSetBut r skip (l .count) ≡ every f (unskipped (skip .of) (namesIn l .asks))
+  pub flags-but : (skip : Flags) → allSetBut r skip (l .count) ≡ every f (unskipped (skip .of) (pointedIn l .asks))
   unfolding allSetBut
   flags-but skip =
       ap (λ (k : List Bool). every (λ (b : Bool). b) (unskipped (skip .of) k)) flags-taken
-      ∙ ap (every (λ (b : Bool). b)) (unskipped-map f (skip .of) (namesIn l .asks))
-      ∙ every-of f (λ (b : Bool). b) (unskipped (skip .of) (namesIn l .asks))
+      ∙ ap (every (λ (b : Bool). b)) (unskipped-map f (skip .of) (pointedIn l .asks))
+      ∙ every-of f (λ (b : Bool). b) (unskipped (skip .of) (pointedIn l .asks))

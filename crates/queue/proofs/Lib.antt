@@ -1,6 +1,5 @@
 pub mod Views
 pub mod Tests
-pub mod Zeros
 pub mod Barring
 pub mod Passes
 pub mod Sweeps
@@ -11,3 +10,5 @@ pub mod Builds
 pub mod Looking
 pub mod Exclusive
 pub mod Promises
+pub mod Repointing
+pub mod Points

@@ -14,6 +14,9 @@ use Rattle.queue.proofs.lead.sole.Reads as sole
 use Rattle.queue.proofs.looks.all_set_but.Reads as all-set-but
 use Rattle.queue.proofs.looks.entered.Reads as entered
 use Rattle.queue.proofs.looks.available.Reads as available
+use Rattle.queue.proofs.offsets.offsets_of.Reads as offsets-of
+use Rattle.queue.proofs.offsets.same_offsets.Reads as same-offsets
+use Rattle.queue.proofs.offsets.with_offsets.Reads as with-offsets
 use Rattle.queue.proofs.releasing.release.Reads as release
 use Rattle.queue.proofs.queuing.with_tail.Reads as with-tail
 use Rattle.queue.proofs.queuing.made_exclusive.Reads as made-exclusive
@@ -56,6 +59,15 @@ entered-once k a x y e d p q = p ∙ sym q
 
 pub available-once : Once available.Post
 available-once k a x y e d p q = p ∙ sym q
+
+pub offsets-of-once : Once offsets-of.Post
+offsets-of-once k a x y e d p q = p ∙ sym q
+
+pub same-offsets-once : Once same-offsets.Post
+same-offsets-once k a x y e d p q = p ∙ sym q
+
+pub with-offsets-once : Once with-offsets.Post
+with-offsets-once k a x y e d p q = p ∙ sym q
 
 pub release-once : Once release.Post
 release-once k a x y e d p q = p ∙ sym q

@@ -4,29 +4,26 @@ use mathlib.Core.Bool.{Bool, false, not, _&&_}
 use mathlib.Core.List.{List, map}
 use Prim.Native.Nat.{_≤_}
 use lib.Dec.{eqb, ltb}
-use lib.ListN.{length, replicate, take, drop}
+use lib.ListN.{length, take, drop}
 use Rattle.lists.specs.Pick.{pick}
-use Rattle.lists.specs.Lists.{every, sameBytes}
+use Rattle.lists.specs.Lists.{every}
 use Rattle.lists.specs.Tables.{padded}
-use Rattle.kinds.specs.Limits.{mostEntries, longestMinor, majorBytes}
+use Rattle.kinds.specs.Limits.{mostEntries}
 use Rattle.kinds.specs.declared.names.Slot.{Slot}
-use Rattle.names.specs.Named.{resourceOf, kept}
+use Rattle.names.specs.Pointers.{pointer, offsetOf}
 use Rattle.rules.specs.Control.{Entry}
 use Rattle.queue.specs.declared.Queue.{Queue}
 
--- the entry that a slot shows, and the slot that keeps an entry
+-- the entry that a slot shows, for the name that its offset stands for, and the slot that keeps an entry
 abbrev pub entryOf : Slot → Entry
-entryOf s = record { task = s .task .0; exclusive = s .exclusive; name = resourceOf (s .name) }
+entryOf s = record { task = s .task .0; exclusive = s .exclusive; name = pointer (s .name .0) }
 
 abbrev pub slotOf : Entry → Slot
-slotOf e = record { task = record { 0 = e .task }; exclusive = e .exclusive; name = kept (e .name) }
+slotOf e =
+    record { task = record { 0 = e .task }; exclusive = e .exclusive; name = record { 0 = offsetOf (e .name) } }
 
 abbrev pub zeroSlot : Slot
-zeroSlot = record {
-  task = record { 0 = 0 };
-  exclusive = false;
-  name = record { major = replicate majorBytes 0; minor = replicate longestMinor 0; length = 0 };
-}
+zeroSlot = record { task = record { 0 = 0 }; exclusive = false; name = record { 0 = 0 } }
 
 abbrev pub rowsOf : List Slot → Queue
 rowsOf l = record { slots = padded mostEntries zeroSlot l; count = length l }
@@ -44,21 +41,11 @@ pub record PackedEntries (q : Queue) : Type 0 where
   pub room : q .count ≤ mostEntries
 
 -- the test of it: "unused places and fields are zero"
-unfoldable pub isFine : Slot → Bool
-isFine s =
-    pick (ltb longestMinor (s .name .length)) false
-    (eqb (length (s .name .minor)) longestMinor && every (eqb 0) (drop (s .name .length) (s .name .minor)))
-
 unfoldable pub isZero : Slot → Bool
-isZero s =
-    eqb (s .task .0) 0 && (not (s .exclusive) && (eqb (s .name .length) 0
-    && (sameBytes (s .name .major) (replicate majorBytes 0) && sameBytes (s .name .minor) (replicate longestMinor 0))))
-
-unfoldable pub allFine : Queue → Bool
-allFine q = every isFine (take (q .count) (q .slots))
+isZero s = eqb (s .task .0) 0 && (not (s .exclusive) && eqb (s .name .0) 0)
 
 unfoldable pub restZero : Queue → Bool
 restZero q = eqb (length (q .slots)) mostEntries && every isZero (drop (q .count) (q .slots))
 
 unfoldable pub packedEntries : Queue → Bool
-packedEntries q = pick (ltb mostEntries (q .count)) false (allFine q && restZero q)
+packedEntries q = pick (ltb mostEntries (q .count)) false (restZero q)

@@ -1,14 +1,15 @@
 // The leading run of a name's queue, whose entries have control, as it is read from the front.
 use crate::Queue;
 use crate::looks::Flags;
-use kinds::Name;
 use kinds::NameList;
+use kinds::NameOffset;
+use kinds::PointedList;
 use kinds::Slot;
 use kinds::TaskNumber;
 ghost use mathlib.Core.Path.{_≡_};
 ghost use Prim.Native.Nat.{_≤_};
 ghost use Rattle.kinds.specs.Limits.{mostEntries, longestList};
-ghost use Rattle.names.specs.Named.{resourceOf, namesIn};
+ghost use Rattle.names.specs.Pointers.{pointer, pointedIn};
 ghost use Rattle.rules.specs.Names.{Ask};
 ghost use Rattle.rules.specs.Control.{soleOwner};
 ghost use Rattle.queue.specs.Queues.{entryOf, entriesIn};
@@ -25,11 +26,10 @@ pub struct Lead {
 }
 
 // One more entry of the queue. Behind another, an exclusive one lacks control, and so do all after it.
-fn read(s: Lead, x: Slot, t: TaskNumber, n: Name) -> Lead
-    ensures { λ r. ⌜ r ≡ leadNext s (t .0) (resourceOf n) (entryOf x) ⌝ }
+fn read(s: Lead, x: Slot, t: TaskNumber, n: NameOffset) -> Lead
+    ensures { λ r. ⌜ r ≡ leadNext s (t .0) (pointer (n .0)) (entryOf x) ⌝ }
 {
-    let m = x.name;
-    if !names::same_name(m, n) {
+    if x.name.0 != n.0 {
         return s;
     }
     if !s.first & x.exclusive {
@@ -47,9 +47,9 @@ fn read(s: Lead, x: Slot, t: TaskNumber, n: Name) -> Lead
 }
 
 // For each name: nobody but the caller owns it.
-pub fn sole(q: Queue, caller: TaskNumber, l: NameList) -> Flags
+pub fn sole(q: Queue, caller: TaskNumber, l: PointedList) -> Flags
     requires { ⌜ (q .count ≤ mostEntries) × (l .count ≤ longestList) ⌝ }
-    ensures { λ r. ⌜ r ≡ flagsOf (λ (a : Ask). soleOwner (entriesIn q) (caller .0) (a .name)) (namesIn l) ⌝ }
+    ensures { λ r. ⌜ r ≡ flagsOf (λ (a : Ask). soleOwner (entriesIn q) (caller .0) (a .name)) (pointedIn l) ⌝ }
 {
     let n = q.count;
     let m = l.count as usize;

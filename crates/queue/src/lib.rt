@@ -2,10 +2,11 @@
 pub mod lead;
 pub mod looks;
 pub mod marks;
+pub mod offsets;
 pub mod queuing;
 pub mod releasing;
 
-use kinds::Name;
+use kinds::NameOffset;
 use kinds::Slot;
 use kinds::TaskNumber;
 pub use marks::Marks;
@@ -15,14 +16,10 @@ pub use marks::no_marks;
 ghost use mathlib.Core.Path.{_≡_};
 ghost use mathlib.Core.List.{[]};
 ghost use Prim.Native.Nat.{_≤_};
-ghost use lib.ListN.{replicate};
-ghost use Rattle.lists.specs.Lists.{sameBytes};
-ghost use Rattle.kinds.specs.Limits.{mostEntries, longestMinor, majorBytes};
-ghost use Rattle.rules.specs.Names.{lawful};
+ghost use Rattle.kinds.specs.Limits.{mostEntries};
 ghost use Rattle.rules.specs.Rings.{bars as barsOf};
 ghost use Rattle.rules.specs.SoundQueue.{sameRequest, entriesOnce, entryNamesGood, queueFits};
-ghost use Rattle.names.specs.Named.{resourceOf};
-ghost use Rattle.queue.specs.Queues.{entryOf, storedEntries, entriesIn, isFine, isZero, packedEntries};
+ghost use Rattle.queue.specs.Queues.{entryOf, storedEntries, entriesIn, isZero, packedEntries};
 ghost use Rattle.queue.specs.Marking.{marksAmong};
 
 pub struct Queue {
@@ -34,15 +31,10 @@ pub struct Queue {
 pub fn empty() -> Queue
     ensures { λ r. ⌜ r ≡ storedEntries [] ⌝ }
 {
-    let n = Name {
-        major: [0u8; Name::MAJOR],
-        minor: [0u8; Name::LONGEST],
-        length: 0,
-    };
     let e = Slot {
         task: TaskNumber(0),
         exclusive: false,
-        name: n,
+        name: NameOffset(0),
     };
     Queue {
         slots: [e; Slot::PLACES],
@@ -50,72 +42,14 @@ pub fn empty() -> Queue
     }
 }
 
-// The bytes after a minor part are zero.
-// This loop and the next two have no exit, so that the compiler takes many bytes at once.
-fn is_fine(s: Slot) -> bool
-    ensures { λ r. ⌜ r ≡ isFine s ⌝ }
-{
-    let m = s.name;
-    let b = m.minor;
-    let n = m.length as usize;
-    if Name::LONGEST < n {
-        return false;
-    }
-    let mut fine = true;
-    let mut i = 0;
-    while i < Name::LONGEST {
-        fine = fine & ((i < n) | (0 == b[i]));
-        i += 1;
-    }
-    fine
-}
-
-fn major_zero(b: [u8; Name::MAJOR]) -> bool
-    ensures { λ r. ⌜ r ≡ sameBytes b (replicate majorBytes 0) ⌝ }
-{
-    let mut zero = true;
-    let mut i = 0;
-    while i < Name::MAJOR {
-        zero = zero & (b[i] == 0);
-        i += 1;
-    }
-    zero
-}
-
-fn minor_zero(b: [u8; Name::LONGEST]) -> bool
-    ensures { λ r. ⌜ r ≡ sameBytes b (replicate longestMinor 0) ⌝ }
-{
-    let mut zero = true;
-    let mut i = 0;
-    while i < Name::LONGEST {
-        zero = zero & (b[i] == 0);
-        i += 1;
-    }
-    zero
-}
-
 fn is_zero(s: Slot) -> bool
     ensures { λ r. ⌜ r ≡ isZero s ⌝ }
 {
-    let n = s.name;
-    let a = n.major;
-    let b = n.minor;
-    if s.task.0 != 0 {
-        return false;
-    }
-    if s.exclusive {
-        return false;
-    }
-    if n.length != 0 {
-        return false;
-    }
-    let x = major_zero(a);
-    let y = minor_zero(b);
-    x & y
+    (s.task.0 == 0) & (!s.exclusive & (s.name.0 == 0))
 }
 
-// The queue keeps a list of entries, and nothing else stands in it: what is used is fine, the rest is zero. Both loops
-// stand in one function, so that the queue is copied once for them.
+// The queue keeps a list of entries, and nothing else stands in it: whatever is used keeps an entry, the rest is zero.
+// The loop has no exit, so that the compiler takes many places at once.
 pub fn packed(q: Queue) -> bool
     ensures { λ r. ⌜ r ≡ packedEntries q ⌝ }
 {
@@ -123,22 +57,15 @@ pub fn packed(q: Queue) -> bool
     if Slot::PLACES < n {
         return false;
     }
-    let mut i = 0;
-    while i < n {
-        let x = q.slots[i];
-        if !is_fine(x) {
-            return false;
-        }
-        i += 1;
-    }
+    let mut zero = true;
+    let mut i = n;
     while i < Slot::PLACES {
         let x = q.slots[i];
-        if !is_zero(x) {
-            return false;
-        }
+        let z = is_zero(x);
+        zero = zero & z;
         i += 1;
     }
-    true
+    zero
 }
 
 // The array bounds the list, whatever the count.
@@ -152,24 +79,14 @@ pub fn queue_fits(q: Queue) -> bool
 pub fn bars(x: Slot, e: Slot) -> bool
     ensures { λ r. ⌜ r ≡ barsOf (entryOf x) (entryOf e) ⌝ }
 {
-    if x.exclusive || e.exclusive {
-        let a = x.name;
-        let b = e.name;
-        return names::same_name(a, b);
-    }
-    false
+    (x.name.0 == e.name.0) & (x.exclusive | e.exclusive)
 }
 
 // Two entries of one task for one name.
 fn same_request(a: Slot, b: Slot) -> bool
     ensures { λ r. ⌜ r ≡ sameRequest (entryOf a) (entryOf b) ⌝ }
 {
-    if b.task.0 != a.task.0 {
-        return false;
-    }
-    let m = b.name;
-    let n = a.name;
-    names::same_name(m, n)
+    (b.task.0 == a.task.0) & (b.name.0 == a.name.0)
 }
 
 // No task has two entries for one name.
@@ -194,28 +111,11 @@ pub fn entries_once(q: Queue) -> bool
     true
 }
 
-// A name that sound tables may hold.
-fn is_lawful(n: Name) -> bool
-    ensures { λ r. ⌜ r ≡ lawful (resourceOf n) ⌝ }
-{
-    names::is_legal(n) & !names::is_system(n)
-}
-
+// The rule holds of any offsets; what lies there is for the name area to test.
 pub fn entry_names_good(q: Queue) -> bool
-    requires { ⌜ q .count ≤ mostEntries ⌝ }
     ensures { λ r. ⌜ r ≡ entryNamesGood (entriesIn q) ⌝ }
 {
-    let n = q.count;
-    let mut i = 0;
-    while i < n {
-        let x = q.slots[i];
-        let m = x.name;
-        if !is_lawful(m) {
-            return false;
-        }
-        i += 1;
-    }
-    true
+    true // an offset stands for a lawful name
 }
 
 // Which of the tasks that are marked lack control: each of their entries is tested behind those before it, until one

@@ -1,14 +1,15 @@
 // What the queue says of each name beside a request, before anything changes.
 
 use crate::Queue;
-use kinds::Name;
 use kinds::NameList;
+use kinds::NameOffset;
+use kinds::PointedList;
 use kinds::Slot;
 use kinds::TaskNumber;
 ghost use mathlib.Core.Path.{_≡_};
 ghost use Prim.Native.Nat.{_≤_};
 ghost use Rattle.kinds.specs.Limits.{mostEntries, longestList};
-ghost use Rattle.names.specs.Named.{resourceOf, namesIn};
+ghost use Rattle.names.specs.Pointers.{pointer, pointedIn};
 ghost use Rattle.rules.specs.Names.{Ask};
 ghost use Rattle.rules.specs.Control.{isFor, hasEntry, available as availableIn};
 ghost use Rattle.queue.specs.Queues.{entryOf, entriesIn};
@@ -38,20 +39,16 @@ pub fn all_set_but(f: Flags, skip: Flags, n: u32) -> bool
 }
 
 // The entry is the task's, for that name.
-fn is_for(x: Slot, t: TaskNumber, n: Name) -> bool
-    ensures { λ r. ⌜ r ≡ isFor (t .0) (resourceOf n) (entryOf x) ⌝ }
+fn is_for(x: Slot, t: TaskNumber, n: NameOffset) -> bool
+    ensures { λ r. ⌜ r ≡ isFor (t .0) (pointer (n .0)) (entryOf x) ⌝ }
 {
-    if x.task.0 != t.0 {
-        return false;
-    }
-    let m = x.name;
-    names::same_name(m, n)
+    (x.task.0 == t.0) & (x.name.0 == n.0)
 }
 
 // For each name: the caller has an entry.
-pub fn entered(q: Queue, caller: TaskNumber, l: NameList) -> Flags
+pub fn entered(q: Queue, caller: TaskNumber, l: PointedList) -> Flags
     requires { ⌜ (q .count ≤ mostEntries) × (l .count ≤ longestList) ⌝ }
-    ensures { λ r. ⌜ r ≡ flagsOf (λ (a : Ask). hasEntry (entriesIn q) (caller .0) (a .name)) (namesIn l) ⌝ }
+    ensures { λ r. ⌜ r ≡ flagsOf (λ (a : Ask). hasEntry (entriesIn q) (caller .0) (a .name)) (pointedIn l) ⌝ }
 {
     let n = q.count;
     let m = l.count as usize;
@@ -77,9 +74,9 @@ pub fn entered(q: Queue, caller: TaskNumber, l: NameList) -> Flags
 
 // For each name: a request for it would have control at once. It
 // is tested as an entry at the tail would be, until one bars it.
-pub fn available(q: Queue, l: NameList) -> Flags
+pub fn available(q: Queue, l: PointedList) -> Flags
     requires { ⌜ (q .count ≤ mostEntries) × (l .count ≤ longestList) ⌝ }
-    ensures { λ r. ⌜ r ≡ flagsOf (availableIn (entriesIn q)) (namesIn l) ⌝ }
+    ensures { λ r. ⌜ r ≡ flagsOf (availableIn (entriesIn q)) (pointedIn l) ⌝ }
 {
     let n = q.count;
     let m = l.count as usize;

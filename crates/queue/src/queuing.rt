@@ -2,27 +2,25 @@
 // Entries are stored and names compared in place: a call would copy the queue or the list at each turn.
 use crate::Queue;
 use crate::looks::Flags;
-use kinds::NameList;
+use kinds::PointedList;
 use kinds::Slot;
 use kinds::TaskNumber;
 ghost use mathlib.Core.Path.{_≡_};
-ghost use mathlib.Core.Bool.{true};
 ghost use mathlib.Core.List.{map};
 ghost use Prim.Native.Nat.{_+_, _≤_};
 ghost use lib.ListN.{length};
-ghost use Rattle.lists.specs.Lists.{every, unskipped};
+ghost use Rattle.lists.specs.Lists.{unskipped};
 ghost use Rattle.kinds.specs.Limits.{mostEntries, longestList};
-ghost use Rattle.rules.specs.Names.{legal, namesOf};
+ghost use Rattle.rules.specs.Names.{namesOf};
 ghost use Rattle.rules.specs.Enq.{withTail, madeExclusive};
-ghost use Rattle.names.specs.Named.{namesIn};
+ghost use Rattle.names.specs.Pointers.{pointedIn};
 ghost use Rattle.queue.specs.Queues.{storedEntries, entriesIn, PackedEntries};
 
 // New entries go to the tail, in list order, but for the names that are skipped.
-pub fn with_tail(q: Queue, c: TaskNumber, l: NameList, skip: Flags) -> Queue
+pub fn with_tail(q: Queue, c: TaskNumber, l: PointedList, skip: Flags) -> Queue
     requires { ⌜ PackedEntries q × (l .count ≤ longestList)
-        × (q .count + length (unskipped (skip .of) (namesIn l .asks)) ≤ mostEntries)
-        × (every legal (namesOf (namesIn l)) ≡ true) ⌝ }
-    ensures { λ r. ⌜ r ≡ storedEntries (withTail (entriesIn q) (c .0) (unskipped (skip .of) (namesIn l .asks))) ⌝ }
+        × (q .count + length (unskipped (skip .of) (pointedIn l .asks)) ≤ mostEntries) ⌝ }
+    ensures { λ r. ⌜ r ≡ storedEntries (withTail (entriesIn q) (c .0) (unskipped (skip .of) (pointedIn l .asks))) ⌝ }
 {
     let n = l.count as usize;
     let mut r = q;
@@ -30,8 +28,7 @@ pub fn with_tail(q: Queue, c: TaskNumber, l: NameList, skip: Flags) -> Queue
     while i < n {
         if !skip.of[i] {
             let w = l.names[i];
-            let m = w.name;
-            let name = names::clean(m);
+            let name = w.name;
             let e = Slot {
                 task: c,
                 exclusive: w.exclusive,
@@ -47,9 +44,9 @@ pub fn with_tail(q: Queue, c: TaskNumber, l: NameList, skip: Flags) -> Queue
 }
 
 // CHNG, in place: the caller's entries for these names become exclusive.
-pub fn made_exclusive(q: Queue, c: TaskNumber, l: NameList) -> Queue
+pub fn made_exclusive(q: Queue, c: TaskNumber, l: PointedList) -> Queue
     requires { ⌜ PackedEntries q × (l .count ≤ longestList) ⌝ }
-    ensures { λ r. ⌜ r ≡ storedEntries (map (madeExclusive (c .0) (namesOf (namesIn l))) (entriesIn q)) ⌝ }
+    ensures { λ r. ⌜ r ≡ storedEntries (map (madeExclusive (c .0) (namesOf (pointedIn l))) (entriesIn q)) ⌝ }
 {
     let n = q.count;
     let k = l.count as usize;
@@ -64,7 +61,7 @@ pub fn made_exclusive(q: Queue, c: TaskNumber, l: NameList) -> Queue
         while mine & (j < k) & !found {
             let w = l.names[j];
             let b = w.name;
-            found = names::same_name(a, b);
+            found = a.0 == b.0;
             j += 1;
         }
         let mut y = x;

@@ -8,8 +8,8 @@ use lib.ListN.{length, take, length-map}
 use borrow.Author.Tests.{ltb-false, not-false}
 use Rattle.lists.specs.Pick.{pick}
 use Rattle.lists.specs.Lists.{every, unskipped}
-use Rattle.lists.specs.Packed.{stored-count}
 use Rattle.kinds.specs.Limits.{mostEntries}
+use Rattle.kinds.specs.declared.names.PointedList.{PointedList}
 use Rattle.kinds.specs.declared.numbers.TaskNumber.{TaskNumber}
 use Rattle.kinds.specs.declared.replies.Gate.the-variants.{Open}
 use Rattle.kinds.specs.declared.replies.Verdict.the-variants.{Go}
@@ -19,12 +19,13 @@ use Rattle.kinds.specs.declared.requests.Ret.{Ret}
 use Rattle.kinds.specs.declared.requests.Ret.the-variants.{None, Test, Use, Have, Chng}
 use Rattle.kinds.specs.declared.tasks.Task.{Task}
 use Rattle.rules.specs.Admission.{gateOf}
-use Rattle.rules.specs.Names.{Ask, Names, nameOf, namesOf}
+use Rattle.names.specs.Pointers.{pointedIn}
+use Rattle.rules.specs.Names.{Ask, Names, nameOf, namesOf, namesGood}
 use Rattle.rules.specs.Control.{Entry, available}
 use Rattle.rules.specs.Codes.{allZero, writtenOn, tooShort}
 use Rattle.rules.specs.Steps.{Step, withTasks, withQueue}
 use Rattle.rules.specs.Enq.{enqCode, enqCodes, enqCodesDue, duplicated, toQueue, enqVerdict, madeExclusive}
-use Rattle.rules.specs.Enq.{onlyIfZero, enqChange}
+use Rattle.rules.specs.Enq.{enqGood, onlyIfZero, enqChange}
 use Rattle.rules.specs.Deq.{deqCode, deqCodes, deqCodesDue, unentered, deqVerdict}
 use Rattle.laws.specs.Running.{Running}
 use Rattle.laws.specs.InRange.{enq-names}
@@ -33,7 +34,7 @@ use Rattle.laws.specs.Passed.{CodesFit, enq-passed}
 use Rattle.laws.specs.Changing.{chng-waits}
 use Rattle.laws.specs.ToQueue.{to-queue-room, use-zero}
 use Rattle.queue.specs.Queues.{entriesIn, PackedEntries}
-use Rattle.queue.proofs.Views.{table}
+use Rattle.queue.proofs.Views.{entries-count}
 use Rattle.queue.specs.declared.Queue.{Queue}
 use Rattle.resources.specs.Coding.{codesOf, codes-front}
 use Rattle.resources.specs.Looking.{looksOf, looksAs, heldCode, enqAsked, deqAsked, enqLooks, deqLooks}
@@ -41,7 +42,8 @@ use Rattle.resources.specs.Looking.{queuesBy, enqFound, deqFound}
 use Rattle.resources.specs.Serving.{isGo, EnqTold, callerWaits, queueLeft, tasksLeft, writtenIf}
 use Rattle.resources.specs.declared.looks.Looks.{Looks}
 use Rattle.resources.specs.declared.Found.{Found}
-use Rattle.resources.proofs.Judged.{found-went, enqRest, deqRest, duplicated-is, unentered-is, queued-left}
+use Rattle.resources.proofs.Judged.{found-went, enqRest, deqRest, enq-parts, deq-parts, duplicated-is}
+use Rattle.resources.proofs.Judged.{unentered-is, queued-left}
 
 -- where codes are due the area has room for them
 pub due-room : (due : Bool) (room n : ℕ) (l : Names) → length (l .asks) ≡ n → due ≡ true → CodesFit due room l
@@ -84,14 +86,16 @@ agree-written true d g l area a e =
 agree-written false d g l area a e = rw e
 
 -- ENQ
-pub enq-told : (q : List Entry) (c : TaskNumber) (ret : Ret) (l : Names) (room : ℕ) (k : Found) (b : Bool)
-    → k ≡ enqFound q c ret l room → b ≡ isGo (k .verdict) → not b ≡ false
-    → (enqVerdict q c ret l room ≡ Go) × EnqTold ret q (c .0) l (k .looks)
-unfolding enqVerdict
-enq-told q c ret l room k b e g h =
-    let w = found-went (enqAsked ret l room) (enqRest q (c .0) ret l) (enqLooks ret q (c .0) l) k b e g h in
-    let p = enq-passed q c ret l room (w .0) in
-    (w .0, record { good = enq-names ret l (p .good); fresh = p .fresh; room = p .room; seen = w .1 })
+pub enq-told : (q : List Entry) (c : TaskNumber) (ret : Ret) (l : PointedList) (room : ℕ) (k : Found) (b : Bool)
+    → enqGood ret (pointedIn l) ≡ true → k ≡ enqFound q c ret (pointedIn l) room → b ≡ isGo (k .verdict)
+    → not b ≡ false
+    → (enqVerdict q c ret (pointedIn l) room ≡ Go) × EnqTold ret q (c .0) (pointedIn l) (k .looks)
+enq-told q c ret l room k b n e g h =
+    let ns = pointedIn l in
+    let w = found-went (enqAsked ret ns room) (enqRest q (c .0) ret ns) (enqLooks ret q (c .0) ns) _
+    (enq-parts q c ret l room n) k b e g h in
+    let p = enq-passed q c ret ns room (w .0) in
+    (w .0, record { good = enq-names ret ns n; fresh = p .fresh; room = p .room; seen = w .1 })
 
 module _ (q : List Entry) (c : ℕ) where
   enq-agree : (ret : Ret) (l : Names)
@@ -122,10 +126,10 @@ module _ (q : List Entry) (c : ℕ) where
 
 -- DEQ
 pub deq-told : (q : List Entry) (c : TaskNumber) (ret : DeqRet) (l : Names) (room : ℕ) (k : Found) (b : Bool)
-    → k ≡ deqFound q c ret l room → b ≡ isGo (k .verdict) → not b ≡ false
+    → namesGood l ≡ true → k ≡ deqFound q c ret l room → b ≡ isGo (k .verdict) → not b ≡ false
     → (deqVerdict q c ret l room ≡ Go) × (k .looks ≡ deqLooks q (c .0) l)
-unfolding deqVerdict
-deq-told q c ret l room = found-went (deqAsked ret l room) (deqRest q (c .0) ret l) (deqLooks q (c .0) l)
+deq-told q c ret l room k b n =
+    found-went (deqAsked ret l room) (deqRest q (c .0) ret l) (deqLooks q (c .0) l) _ (deq-parts q c ret l room n) k b
 
 module _ (q : List Entry) (c : ℕ) where
   deq-agree : (ret : DeqRet) (l : Names) → Agree (deqCodesDue ret) (map (heldCode q c) (l .asks)) (deqCodes ret q c l)
@@ -157,7 +161,7 @@ module _ {ret : Ret} {q : List Entry} {c : ℕ} {l : Names} {looks : Looks} (u :
   pub left-room : (k : Queue) → PackedEntries k → entriesIn k ≡ q
       → k .count + length (unskipped (looks .has .of) (l .asks)) ≤ mostEntries
   left-room k p e =
-      let n : k .count ≡ length q = stored-count table (entriesIn k) k (p .form) ∙ ap length e in
+      let n : k .count ≡ length q = entries-count (entriesIn k) k (p .form) ∙ ap length e in
       rw (left-told, n) (to-queue-room ret q c l (omega (arith, p .room)) (u .room))
 
   -- the caller is to wait for it, unless each name is available

@@ -1,4 +1,4 @@
--- The tests of ENQ and DEQ as the code makes them: of the request alone, and then of the looks.
+-- The tests of ENQ and DEQ as the code makes them where the names are good: of the request alone, then of the looks.
 use mathlib.Core.Path.{_≡_, refl, sym, ap, _∙_}
 use mathlib.Core.Bool.{Bool, true, false, not, _&&_, _||_, false≢true, Bool·not-not}
 use mathlib.Core.List.{List, [], _∷_, _++_, map}
@@ -6,16 +6,19 @@ use Prim.Native.Nat.{ℕ, _+_, _≤_}
 use native.Mathlib.Omega.{arith}
 use lib.Dec.{eqb, ltb}
 use lib.ListN.{length, take, length-map}
-use borrow.Author.Tests.{lt-ltb, le-ltb}
+use borrow.Author.Tests.{lt-ltb, le-ltb, not-true}
 use Rattle.lists.specs.Lists.{keep, every, some, none, howMany, unskipped}
 use Rattle.lists.specs.Pick.{pick, pick-true, pick-false}
 use Rattle.lists.specs.Tables.{padded, padded-take}
 use Rattle.lists.specs.Setting.{howMany-map}
 use Rattle.lists.specs.Counting.{howMany-keep}
-use Rattle.lists.specs.Keeping.{keep-among, keep-all}
+use Rattle.lists.specs.Bools.{both}
+use Rattle.lists.specs.Keeping.{keep-among, keep-all, take-map}
 use Rattle.lists.specs.Skipping.{unskipped-flags}
 use Rattle.kinds.specs.Limits.{longestList, mostEntries}
-use Rattle.kinds.specs.declared.names.NameList.{NameList}
+use Rattle.kinds.specs.declared.names.Pointed.{Pointed}
+use Rattle.kinds.specs.declared.names.PointedList.{PointedList}
+use Rattle.kinds.specs.declared.numbers.TaskNumber.{TaskNumber}
 use Rattle.kinds.specs.declared.requests.Ret.{Ret}
 use Rattle.kinds.specs.declared.requests.Ret.the-variants.{None, Test, Use, Have, Chng}
 use Rattle.kinds.specs.declared.requests.DeqRet.{DeqRet}
@@ -24,18 +27,17 @@ use Rattle.kinds.specs.declared.replies.Verdict.{Verdict}
 use Rattle.kinds.specs.declared.replies.Verdict.the-variants.{Go, Refuse, Fail}
 use Rattle.kinds.specs.declared.replies.Refusal.the-variants.{NoEntryFree}
 use Rattle.kinds.specs.declared.replies.Fault.the-variants.{DuplicateEnq, DeqWithoutEntry}
-use Rattle.names.specs.Named.{namesIn}
-use Rattle.names.proofs.Listed.{good-count}
-use Rattle.rules.specs.Names.{Ask, Names, nameOf, namesGood}
+use Rattle.names.specs.Pointers.{pointedAsk, pointedIn, lawful-pointer}
+use Rattle.rules.specs.Names.{Ask, Names, nameOf, namesOf, legal, lawful, namesGood, asksSystem}
 use Rattle.rules.specs.Control.{Entry, hasEntry}
 use Rattle.rules.specs.Codes.{allZero, tooShort}
 use Rattle.rules.specs.Tests.{No, saying, Check, refuse, fail, firstOf}
 use Rattle.rules.specs.Tests.No.{refusal, fault}
 use Rattle.rules.specs.Admission.{onGo}
-use Rattle.rules.specs.Enq.{enqCode, enqCodesDue, enqGood, duplicated, fresh, toQueue, tooFewFree}
-use Rattle.rules.specs.Deq.{deqCode, deqCodesDue, unentered}
-use Rattle.laws.specs.Decided.{none-hold, bad-held, bad-failed, good-of, judged}
-use Rattle.laws.specs.InRange.{enq-names}
+use Rattle.rules.specs.Enq.{enqCode, enqCodesDue, enqGood, enqVerdict, duplicated, fresh, toQueue, tooFewFree}
+use Rattle.rules.specs.Deq.{deqCode, deqCodesDue, deqVerdict, unentered}
+use Rattle.laws.specs.Decided.{bad-held, bad-failed, judged}
+use Rattle.laws.specs.LawfulNames.{lawful-each}
 use Rattle.laws.specs.ToQueue.{to-queue-fresh}
 use Rattle.queue.specs.Flagging.{flagsOf}
 use Rattle.queue.proofs.Flagged.{asks-length}
@@ -71,12 +73,16 @@ go-is v b e h = one v (bad-failed b (isGo v) e h)
 abbrev pub foundBy : Verdict → Verdict → Looks → Found
 foundBy first then looks = record { verdict = onGo first then first; looks = onGo first looks noLooks }
 
-module _ (ts us : List Check) (looks : Looks) where
+-- a verdict whose tests are these, and then those
+module _ (ts us : List Check) (looks : Looks) (all : Verdict) (parts : all ≡ firstOf (ts ++ us)) where
   abbrev found : Found
-  found = record { verdict = firstOf (ts ++ us); looks = onGo (firstOf ts) looks noLooks }
+  found = record { verdict = all; looks = onGo (firstOf ts) looks noLooks }
+
+  first-then : all ≡ onGo (firstOf ts) (firstOf us) (firstOf ts)
+  first-then = parts ∙ split ts us
 
   found-is : foundBy (firstOf ts) (firstOf us) looks ≡ found
-  found-is = λ i. record { verdict = sym (split ts us) i; looks = onGo (firstOf ts) looks noLooks }
+  found-is = λ i. record { verdict = sym first-then i; looks = onGo (firstOf ts) looks noLooks }
 
   pub found-stops : (r : Found) (v : Verdict) (b : Bool) → v ≡ firstOf ts → b ≡ isGo v → not b ≡ true → r ≡ unlookedBy v
       → r ≡ found
@@ -96,10 +102,10 @@ module _ (ts us : List Check) (looks : Looks) where
 
   -- where they all go on, the looks were made
   pub found-went : (r : Found) (b : Bool) → r ≡ found → b ≡ isGo (r .verdict) → not b ≡ false
-      → (firstOf (ts ++ us) ≡ Go) × (r .looks ≡ looks)
+      → (all ≡ Go) × (r .looks ≡ looks)
   found-went r b e g h =
       let v = sym (ap (λ (x : Found). x .verdict) e) ∙ go-is (r .verdict) b g h in
-      (v, ap (λ (x : Found). x .looks) e ∙ one (firstOf ts) (sym (split ts us) ∙ v))
+      (v, ap (λ (x : Found). x .looks) e ∙ one (firstOf ts) (sym first-then ∙ v))
     where
       one : (u : Verdict) → onGo u (firstOf us) u ≡ Go → onGo u looks noLooks ≡ looks
       one Go k = refl
@@ -107,8 +113,8 @@ module _ (ts us : List Check) (looks : Looks) where
       one (Fail what) k = cc
 
 -- THE CODES AREA against the count
-pub short-is : (l : NameList) (room : ℕ) (due : Bool) → l .count ≤ length (l .names)
-    → (due && ltb room (l .count)) ≡ (due && tooShort room (namesIn l))
+pub short-is : (l : PointedList) (room : ℕ) (due : Bool) → l .count ≤ length (l .names)
+    → (due && ltb room (l .count)) ≡ (due && tooShort room (pointedIn l))
 unfolding tooShort
 short-is l room due h = rw (asks-length l h)
 
@@ -128,18 +134,30 @@ enqRest q c ret l = fail DuplicateEnq (duplicated ret q c l) ∷ refuse NoEntryF
 abbrev pub deqRest : List Entry → ℕ → DeqRet → Names → List Check
 deqRest q c ret l = fail DeqWithoutEntry (unentered ret q c l) ∷ []
 
--- where the request alone is not refused, the count is within the array
-pub enq-few : (ret : Ret) (l : NameList) (room : ℕ) (v : Verdict) → v ≡ firstOf (enqAsked ret (namesIn l) room)
-    → v ≡ Go → l .count ≤ longestList
-enq-few ret l room v e h =
-    let g = none-hold (enqAsked ret (namesIn l) room) (sym e ∙ h) in
-    good-count (namesIn l) (enq-names ret (namesIn l) (good-of (enqGood ret (namesIn l)) (g .0)))
+-- no name that is given by its offset is a system name
+pub no-system : (l : PointedList) → asksSystem (pointedIn l) ≡ false
+unfolding asksSystem
+no-system l =
+    let ns = namesOf (pointedIn l) in
+    let e = ap (λ (k : List Ask). every lawful (map nameOf k)) (take-map pointedAsk (l .count) (l .names)) in
+    not-true _ (both (every legal ns) _ (sym (lawful-each ns) ∙ e ∙ all (take (l .count) (l .names))) .1)
+  where
+    all : (k : List Pointed) → every lawful (map nameOf (map pointedAsk k)) ≡ true
+    all [] = refl
+    all (p ∷ k) = rw (lawful-pointer (p .name .0)) (all k)
 
-pub deq-few : (ret : DeqRet) (l : NameList) (room : ℕ) (v : Verdict) → v ≡ firstOf (deqAsked ret (namesIn l) room)
-    → v ≡ Go → l .count ≤ longestList
-deq-few ret l room v e h =
-    let g = none-hold (deqAsked ret (namesIn l) room) (sym e ∙ h) in
-    good-count (namesIn l) (good-of (namesGood (namesIn l)) (g .0))
+-- where the names are good, the rules' tests are these two parts
+pub enq-parts : (q : List Entry) (c : TaskNumber) (ret : Ret) (l : PointedList) (room : ℕ)
+    → enqGood ret (pointedIn l) ≡ true
+    → enqVerdict q c ret (pointedIn l) room
+    ≡ firstOf (enqAsked ret (pointedIn l) room ++ enqRest q (c .0) ret (pointedIn l))
+unfolding enqVerdict pick
+enq-parts q c ret l room h = rw (h, no-system l)
+
+pub deq-parts : (q : List Entry) (c : TaskNumber) (ret : DeqRet) (l : Names) (room : ℕ) → namesGood l ≡ true
+    → deqVerdict q c ret l room ≡ firstOf (deqAsked ret l room ++ deqRest q (c .0) ret l)
+unfolding deqVerdict pick
+deq-parts q c ret l room h = rw h
 
 -- UNDER NONE a code other than 0 is the error
 module _ (q : List Entry) (c : ℕ) where

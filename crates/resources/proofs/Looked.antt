@@ -15,11 +15,11 @@ use Rattle.lists.specs.Every.{every-append}
 use Rattle.lists.specs.Changing.{map-next}
 use Rattle.lists.specs.Filling.{number-at, by-number}
 use Rattle.kinds.specs.Limits.{longestList}
-use Rattle.kinds.specs.declared.names.Wanted.{Wanted}
-use Rattle.kinds.specs.declared.names.NameList.{NameList}
+use Rattle.kinds.specs.declared.names.Pointed.{Pointed}
+use Rattle.kinds.specs.declared.names.PointedList.{PointedList}
 use Rattle.kinds.specs.declared.requests.Ret.{Ret}
 use Rattle.kinds.specs.declared.requests.Ret.the-variants.{None, Test, Use, Have, Chng}
-use Rattle.names.specs.Named.{askOf, namesIn}
+use Rattle.names.specs.Pointers.{pointedAsk, pointedIn}
 use Rattle.rules.specs.Names.{Ask}
 use Rattle.rules.specs.Control.{Entry, available, soleOwner}
 use Rattle.rules.specs.Codes.{allZero}
@@ -74,35 +74,37 @@ told-is has clear wanted i n r p e v = λ t. record {
     f : ℕ → ℕ
     f = codeAt has wanted clear
 
-blank : Wanted
-blank = record { exclusive = false; name = record { major = []; minor = []; length = 0 } }
+blank : Pointed
+blank = record { exclusive = false; name = record { 0 = 0 } }
 
 -- by the flags of all names, where each place has its name's code
-module _ (l : NameList) (h : l .count ≤ length (l .names)) (k : l .count ≤ longestList) where
-  looks-are : (has clear : Flags) (wanted : Bool) (f : Ask → Bool) (g : Ask → ℕ) → has ≡ flagsOf f (namesIn l)
-      → ((j : ℕ) (d : Wanted) → j < l .count
-      → codeBy (f (askOf (getD (l .names) j d))) wanted (getD (clear .of) j false) ≡ g (askOf (getD (l .names) j d)))
-      → toldBy has wanted clear (l .count) ≡ looksOf f g (namesIn l)
+module _ (l : PointedList) (h : l .count ≤ length (l .names)) (k : l .count ≤ longestList) where
+  looks-are : (has clear : Flags) (wanted : Bool) (f : Ask → Bool) (g : Ask → ℕ) → has ≡ flagsOf f (pointedIn l)
+      → ((j : ℕ) (d : Pointed) → j < l .count
+      → codeBy (f (pointedAsk (getD (l .names) j d))) wanted (getD (clear .of) j false)
+      ≡ g (pointedAsk (getD (l .names) j d)))
+      → toldBy has wanted clear (l .count) ≡ looksOf f g (pointedIn l)
   unfolding toldBy looksOf
   looks-are has clear wanted f g e w =
       λ t. record { has = e t; codes = codesOf (codes t); zero = allZero (codes t) }
     where
-      n : length (namesIn l .asks) ≡ l .count
+      n : length (pointedIn l .asks) ≡ l .count
       n = asks-length l h
 
-      at : (j : ℕ) → j < length (namesIn l .asks)
-          → codeAt has wanted clear (0 + j) ≡ g (getD (namesIn l .asks) j (askOf blank))
+      at : (j : ℕ) → j < length (pointedIn l .asks)
+          → codeAt has wanted clear (0 + j) ≡ g (getD (pointedIn l .asks) j (pointedAsk blank))
       at j u =
           let s : j < l .count = omega (arith, n) in
-          let d = getD-take (l .count) (map askOf (l .names)) j (askOf blank) s in
+          let d = getD-take (l .count) (map pointedAsk (l .names)) j (pointedAsk blank) s in
           ap (codeAt has wanted clear) (zero-add j)
           ∙ ap (λ (b : Bool). codeBy b wanted (getD (clear .of) j false)) (flag-at f l has j blank false e s h)
-          ∙ w j blank s ∙ ap g (sym (d ∙ List·getD-map askOf (l .names) j blank))
+          ∙ w j blank s ∙ ap g (sym (d ∙ List·getD-map pointedAsk (l .names) j blank))
 
-      codes : map (codeAt has wanted clear) (take (l .count) (numbers 0 longestList)) ≡ map g (namesIn l .asks)
+      codes : map (codeAt has wanted clear) (take (l .count) (numbers 0 longestList)) ≡ map g (pointedIn l .asks)
       codes =
           ap (λ (m : ℕ). map (codeAt has wanted clear) (take m (numbers 0 longestList))) (sym n)
-          ∙ by-number (codeAt has wanted clear) g (askOf blank) 0 longestList (namesIn l .asks) (omega (arith, n)) at
+          ∙ by-number (codeAt has wanted clear) g (pointedAsk blank) 0 longestList (pointedIn l .asks)
+          (omega (arith, n)) at
 
 -- the rules' columns, by whether the caller is to have an entry
 fresh-code : (has clear : Bool) → codeBy has false clear ≡ pick has 8 (pick clear 0 4)
@@ -117,17 +119,17 @@ held-code true true = refl
 held-code true false = refl
 held-code false clear = refl
 
-module _ (l : NameList) (h : l .count ≤ length (l .names)) (k : l .count ≤ longestList) (q : List Entry) (c : ℕ)
-    (has clear : Flags) (e : has ≡ flagsOf (entered q c) (namesIn l)) where
-  abbrev ask : ℕ → Wanted → Ask
-  ask j d = askOf (getD (l .names) j d)
+module _ (l : PointedList) (h : l .count ≤ length (l .names)) (k : l .count ≤ longestList) (q : List Entry) (c : ℕ)
+    (has clear : Flags) (e : has ≡ flagsOf (entered q c) (pointedIn l)) where
+  abbrev ask : ℕ → Pointed → Ask
+  ask j d = pointedAsk (getD (l .names) j d)
 
   all-clear : clear ≡ allClear → (j : ℕ) → j < l .count → getD (clear .of) j false ≡ true
   all-clear v j s =
       ap (λ (f : Flags). getD (f .of) j false) v ∙ getD-replicate longestList j true false (omega arith)
 
   -- ENQ
-  enq-code : (ret : Ret) → clear ≡ clearFor ret q c (namesIn l) → (j : ℕ) (d : Wanted) → j < l .count
+  enq-code : (ret : Ret) → clear ≡ clearFor ret q c (pointedIn l) → (j : ℕ) (d : Pointed) → j < l .count
       → codeBy (entered q c (ask j d)) (wantsEntry ret) (getD (clear .of) j false) ≡ enqCode (looksAs ret) q c (ask j d)
   unfolding clearFor enqCode pick
   enq-code None v j d s = rw (all-clear v j s) (fresh-code (entered q c (ask j d)) true)
@@ -137,18 +139,18 @@ module _ (l : NameList) (h : l .count ≤ length (l .names)) (k : l .count ≤ l
   enq-code Chng v j d s =
       rw (flag-at (λ (a : Ask). soleOwner q c (a .name)) l clear j d false v s h) (held-code (entered q c (ask j d)) _)
 
-  pub enq-looks-are : (ret : Ret) (wanted : Bool) → wanted ≡ wantsEntry ret → clear ≡ clearFor ret q c (namesIn l)
-      → toldBy has wanted clear (l .count) ≡ enqLooks ret q c (namesIn l)
+  pub enq-looks-are : (ret : Ret) (wanted : Bool) → wanted ≡ wantsEntry ret → clear ≡ clearFor ret q c (pointedIn l)
+      → toldBy has wanted clear (l .count) ≡ enqLooks ret q c (pointedIn l)
   enq-looks-are ret wanted u v =
       ap (λ (b : Bool). toldBy has b clear (l .count)) u
       ∙ looks-are l h k has clear (wantsEntry ret) (entered q c) (enqCode (looksAs ret) q c) e (enq-code ret v)
 
   -- DEQ
-  deq-code : clear ≡ allClear → (j : ℕ) (d : Wanted) → j < l .count
+  deq-code : clear ≡ allClear → (j : ℕ) (d : Pointed) → j < l .count
       → codeBy (entered q c (ask j d)) true (getD (clear .of) j false) ≡ heldCode q c (ask j d)
   unfolding deqCode pick
   deq-code v j d s = rw (all-clear v j s) (held-code (entered q c (ask j d)) true)
 
-  pub deq-looks-are : clear ≡ allClear → toldBy has true clear (l .count) ≡ deqLooks q c (namesIn l)
+  pub deq-looks-are : clear ≡ allClear → toldBy has true clear (l .count) ≡ deqLooks q c (pointedIn l)
   deq-looks-are v =
       looks-are l h k has clear true (entered q c) (heldCode q c) e (deq-code v)

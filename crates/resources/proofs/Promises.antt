@@ -5,6 +5,8 @@ use Rattle.lists.specs.Promise.{Once, OnceWith}
 use Rattle.tables.proofs.Bodies.{made-once}
 use Rattle.resources.proofs.enq.served.Reads as enq-served
 use Rattle.resources.proofs.deq.served.Reads as deq-served
+use Rattle.resources.proofs.named.enq_named.Reads as enq-named
+use Rattle.resources.proofs.named.deq_named.Reads as deq-named
 use Rattle.resources.proofs.codes.enq_codes_due.Reads as enq-codes-due
 use Rattle.resources.proofs.codes.deq_codes_due.Reads as deq-codes-due
 use Rattle.resources.proofs.codes.write.Reads as write
@@ -12,6 +14,12 @@ use Rattle.resources.proofs.looks.enq_looks.Reads as enq-looks
 use Rattle.resources.proofs.looks.deq_looks.Reads as deq-looks
 use Rattle.resources.proofs.enq.enq_found.Reads as enq-found
 use Rattle.resources.proofs.deq.deq_found.Reads as deq-found
+
+pub enq-named-once : Once enq-named.Post
+enq-named-once k a x y e d p q = p ∙ sym q
+
+pub deq-named-once : Once deq-named.Post
+deq-named-once k a x y e d p q = p ∙ sym q
 
 pub enq-codes-due-once : Once enq-codes-due.Post
 enq-codes-due-once k a x y e d p q = p ∙ sym q

@@ -69,20 +69,19 @@ heldCode q c a = deqCode DeqHave q c (a .name)
 abbrev pub deqLooks : List Entry → ℕ → Names → Looks
 deqLooks q c l = looksOf (entered q c) (heldCode q c) l
 
--- THE TESTS, in two parts: of the request alone, and of what the looks say
+-- THE TESTS, in three parts: of the names beside the request, of the rest of it, and of what the looks say
+
+abbrev pub enqNamed : Ret → Names → List Check
+enqNamed ret l = refuse OutOfRange (not (enqGood ret l)) ∷ refuse SystemName (asksSystem l) ∷ []
+
+abbrev pub deqNamed : Names → List Check
+deqNamed l = refuse OutOfRange (not (namesGood l)) ∷ []
 
 abbrev pub enqAsked : Ret → Names → ℕ → List Check
-enqAsked ret l room =
-    refuse OutOfRange (not (enqGood ret l))
-    ∷ refuse SystemName (asksSystem l)
-    ∷ refuse ShortArea (enqCodesDue ret && tooShort room l)
-    ∷ []
+enqAsked ret l room = refuse ShortArea (enqCodesDue ret && tooShort room l) ∷ []
 
 abbrev pub deqAsked : DeqRet → Names → ℕ → List Check
-deqAsked ret l room =
-    refuse OutOfRange (not (namesGood l))
-    ∷ refuse ShortArea (deqCodesDue ret && tooShort room l)
-    ∷ []
+deqAsked ret l room = refuse ShortArea (deqCodesDue ret && tooShort room l) ∷ []
 
 -- names are queued for: under NONE and HAVE, and under USE if every code is 0
 abbrev pub queuesBy : Ret → Bool → Bool
@@ -116,7 +115,7 @@ deqWeighed ret zero = fail DeqWithoutEntry (not (deqCodesDue ret) && not zero) �
 abbrev pub unlookedBy : Verdict → Found
 unlookedBy v = record { verdict = v; looks = noLooks }
 
--- the verdict, and the looks where the request alone was not refused
+-- of good names: the verdict, and the looks where the rest of the request is not refused
 abbrev pub enqFound : List Entry → TaskNumber → Ret → Names → ℕ → Found
 enqFound q c ret l room = record {
   verdict = enqVerdict q c ret l room;

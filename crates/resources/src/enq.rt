@@ -12,15 +12,12 @@ use crate::unlooked;
 use crate::write_due;
 use kinds::Condition;
 use kinds::Fault;
-use kinds::NameList;
+use kinds::PointedList;
 use kinds::Refusal;
 use kinds::Ret;
 use kinds::Slot;
 use kinds::TaskNumber;
 use kinds::Verdict;
-use names::list::asks_shared;
-use names::list::asks_system;
-use names::list::names_good;
 use queue::Queue;
 use queue::looks::Flags;
 use tables::AllTables;
@@ -29,13 +26,14 @@ use tables::made::goes;
 use tables::made::stays;
 use tasks::TaskTable;
 ghost use mathlib.Core.Path.{_≡_};
+ghost use mathlib.Core.Bool.{true};
 ghost use Rattle.rules.specs.Enq.{enqVerdict, enqDone};
 ghost use Rattle.tables.specs.Tables.{stepOf, Admitted};
 ghost use Rattle.tables.specs.Bodies.{told, bodyOf};
-ghost use Prim.Native.Nat.{_+_, _≤_};
+ghost use Prim.Native.Nat.{_≤_};
 ghost use lib.ListN.{length};
 ghost use Rattle.kinds.specs.Limits.{lowestTask, highestTask, mostEntries, longestList};
-ghost use Rattle.names.specs.Named.{namesIn};
+ghost use Rattle.names.specs.Pointers.{pointedIn};
 ghost use Rattle.rules.specs.Tests.{firstOf};
 ghost use Rattle.rules.specs.Enq.{enqGood};
 ghost use Rattle.queue.specs.Queues.{entriesIn, storedEntries, PackedEntries};
@@ -43,26 +41,11 @@ ghost use Rattle.tasks.specs.TaskTables.{taskTableOf};
 ghost use Rattle.resources.specs.Looking.{queuesBy, freshNames, fewFree, enqAsked, enqWeighed, enqFound};
 ghost use Rattle.resources.specs.Serving.{EnqTold, callerWaits, queueLeft, tasksLeft, enqLeaves};
 
-// 101. Only of a good list are the modes looked at.
-fn enq_good(ret: Ret, l: NameList) -> bool
-    ensures { λ r. ⌜ r ≡ enqGood ret (namesIn l) ⌝ }
+// What the request alone says, apart from its names: 104.
+fn enq_asked(ret: Ret, l: PointedList, room: usize) -> Verdict
+    requires { ⌜ l .count ≤ longestList ⌝ }
+    ensures { λ r. ⌜ r ≡ firstOf (enqAsked ret (pointedIn l) room) ⌝ }
 {
-    if !names_good(l) {
-        return false;
-    }
-    !asks_shared(ret, l)
-}
-
-// What the request alone says: 101, 110, 104.
-fn enq_asked(ret: Ret, l: NameList, room: usize) -> Verdict
-    ensures { λ r. ⌜ r ≡ firstOf (enqAsked ret (namesIn l) room) ⌝ }
-{
-    if !enq_good(ret, l) {
-        return Verdict::Refuse(Refusal::OutOfRange);
-    }
-    if asks_system(l) {
-        return Verdict::Refuse(Refusal::SystemName);
-    }
     if too_short(enq_codes_due(ret), l, room) {
         return Verdict::Refuse(Refusal::ShortArea);
     }
@@ -127,10 +110,11 @@ fn enq_weighed(ret: Ret, looks: Looks, count: usize, n: u32) -> Verdict
     Verdict::Go
 }
 
-// ENQ's tests, 101, 110, 104, 201, 105: the queue is looked at where the request alone is not refused.
-pub fn enq_found(q: Queue, caller: TaskNumber, ret: Ret, l: NameList, room: usize) -> Found
-    requires { ⌜ q .count ≤ mostEntries ⌝ }
-    ensures { λ r. ⌜ r ≡ enqFound (entriesIn q) caller ret (namesIn l) room ⌝ }
+// ENQ's tests of good names, 104, 201, 105: the queue is looked at where the request alone is not refused. 110 is not
+// tested again: what stands for a name here is never a system name.
+pub fn enq_found(q: Queue, caller: TaskNumber, ret: Ret, l: PointedList, room: usize) -> Found
+    requires { ⌜ (q .count ≤ mostEntries) × (enqGood ret (pointedIn l) ≡ true) ⌝ }
+    ensures { λ r. ⌜ r ≡ enqFound (entriesIn q) caller ret (pointedIn l) room ⌝ }
 {
     let asked = enq_asked(ret, l, room);
     if !goes_on(asked) {
@@ -142,28 +126,28 @@ pub fn enq_found(q: Queue, caller: TaskNumber, ret: Ret, l: NameList, room: usiz
 }
 
 // The caller waits for one of the names that are queued for. USE has looked before, and queues only what is available.
-fn waits(q: Queue, ret: Ret, names: NameList, looks: Looks) -> bool
-    requires { ⌜ (q .count ≤ mostEntries) × (names .count ≤ longestList) ⌝ }
-    ensures { λ r. ⌜ r ≡ callerWaits ret (entriesIn q) (namesIn names) looks ⌝ }
+fn waits(q: Queue, ret: Ret, l: PointedList, looks: Looks) -> bool
+    requires { ⌜ (q .count ≤ mostEntries) × (l .count ≤ longestList) ⌝ }
+    ensures { λ r. ⌜ r ≡ callerWaits ret (entriesIn q) (pointedIn l) looks ⌝ }
 {
     if asks_free(ret) | !queues(ret, looks.zero) {
         return false;
     }
-    let free = queue::looks::available(q, names);
-    !queue::looks::all_set_but(free, looks.has, names.count)
+    let free = queue::looks::available(q, l);
+    !queue::looks::all_set_but(free, looks.has, l.count)
 }
 
 // What each RET kind makes of the queue, USE and CHNG only if every code is 0: the names stand at the tail, but for
 // those that the caller has an entry for; under CHNG its entries for them are made exclusive.
-fn queue_left(q: Queue, caller: TaskNumber, ret: Ret, names: NameList, looks: Looks) -> Queue
-    requires { ⌜ PackedEntries q × EnqTold ret (entriesIn q) (caller .0) (namesIn names) looks ⌝ }
-    ensures { λ r. ⌜ r ≡ storedEntries (queueLeft ret (entriesIn q) (caller .0) (namesIn names) (looks .zero)) ⌝ }
+fn queue_left(q: Queue, caller: TaskNumber, ret: Ret, l: PointedList, looks: Looks) -> Queue
+    requires { ⌜ PackedEntries q × EnqTold ret (entriesIn q) (caller .0) (pointedIn l) looks ⌝ }
+    ensures { λ r. ⌜ r ≡ storedEntries (queueLeft ret (entriesIn q) (caller .0) (pointedIn l) (looks .zero)) ⌝ }
 {
     if queues(ret, looks.zero) {
-        return queue::queuing::with_tail(q, caller, names, looks.has);
+        return queue::queuing::with_tail(q, caller, l, looks.has);
     }
     if wants_entry(ret) & looks.zero {
-        return queue::queuing::made_exclusive(q, caller, names);
+        return queue::queuing::made_exclusive(q, caller, l);
     }
     q
 }
@@ -181,25 +165,26 @@ fn tasks_left(f: TaskTable, caller: TaskNumber, waits: bool) -> TaskTable
     tasks::with_place(f, caller, y)
 }
 
-// ENQ's tests; where they go on, codes are written where they are due, and the names queued for or made exclusive.
-pub fn served(t: AllTables, caller: TaskNumber, ret: Ret, names: NameList, codes: &mut [u8]) -> Made
-    requires { ⌜ Admitted t caller ⌝ }
+// ENQ, of names that are good: its tests; where they go on, codes are written where they are due, and the names queued
+// for or made exclusive.
+pub fn served(t: AllTables, caller: TaskNumber, ret: Ret, l: PointedList, codes: &mut [u8]) -> Made
+    requires { ⌜ Admitted t caller × (enqGood ret (pointedIn l) ≡ true) ⌝ }
     ensures { λ r. ⌜ told r
-        ≡ bodyOf (enqVerdict (entriesIn (t .queue)) caller ret (namesIn names) (length (now (codes .entry)))) t
-        (enqDone (stepOf t) caller ret (namesIn names)) ⌝ }
-    ensures { λ _. ⌜ now (codes .exit) ≡ enqLeaves (t .queue) caller ret (namesIn names) (now (codes .entry)) ⌝ }
+        ≡ bodyOf (enqVerdict (entriesIn (t .queue)) caller ret (pointedIn l) (length (now (codes .entry)))) t
+        (enqDone (stepOf t) caller ret (pointedIn l)) ⌝ }
+    ensures { λ _. ⌜ now (codes .exit) ≡ enqLeaves (t .queue) caller ret (pointedIn l) (now (codes .entry)) ⌝ }
 {
     let room = codes.len();
-    let found = enq_found(t.queue, caller, ret, names, room);
+    let found = enq_found(t.queue, caller, ret, l, room);
     let verdict = found.verdict;
     if !goes_on(verdict) {
         return stays(verdict, t);
     }
     let looks = found.looks;
     let k = looks.codes;
-    write_due(enq_codes_due(ret), k, names, codes);
-    let q = queue_left(t.queue, caller, ret, names, looks);
-    let f = tasks_left(t.tasks, caller, waits(t.queue, ret, names, looks));
+    write_due(enq_codes_due(ret), k, l, codes);
+    let q = queue_left(t.queue, caller, ret, l, looks);
+    let f = tasks_left(t.tasks, caller, waits(t.queue, ret, l, looks));
     goes(
         reply_to(looks.zero),
         tables::put_tasks(tables::put_queue(t, q), f),

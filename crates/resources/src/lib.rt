@@ -3,10 +3,12 @@ pub mod codes;
 pub mod deq;
 pub mod enq;
 pub mod looks;
+pub mod named;
 
 use crate::codes::Codes;
 use crate::looks::Looks;
 use kinds::NameList;
+use kinds::PointedList;
 use kinds::Reply;
 use kinds::Verdict;
 use queue::looks::Flags;
@@ -15,7 +17,7 @@ ghost use mathlib.Core.Bool.{_&&_};
 ghost use Prim.Native.Nat.{_≤_};
 ghost use lib.ListN.{length, take};
 ghost use Rattle.kinds.specs.Limits.{longestList};
-ghost use Rattle.names.specs.Named.{namesIn};
+ghost use Rattle.names.specs.Pointers.{pointedIn};
 ghost use Rattle.rules.specs.Codes.{tooShort};
 ghost use Rattle.laws.specs.Passed.{CodesFit};
 ghost use Rattle.resources.specs.Looking.{unlookedBy};
@@ -38,9 +40,9 @@ fn goes_on(verdict: Verdict) -> bool
 }
 
 // 104. `room` is the codes area's length.
-fn too_short(due: bool, l: NameList, room: usize) -> bool
+fn too_short(due: bool, l: PointedList, room: usize) -> bool
     requires { ⌜ l .count ≤ longestList ⌝ }
-    ensures { λ r. ⌜ r ≡ (due && tooShort room (namesIn l)) ⌝ }
+    ensures { λ r. ⌜ r ≡ (due && tooShort room (pointedIn l)) ⌝ }
 {
     let n = l.count as usize;
     due & (room < n)
@@ -75,10 +77,10 @@ fn reply_to(zero: bool) -> Reply
 }
 
 // The codes of the names go to the front of the area if they are due, and else no byte changes.
-fn write_due(due: bool, k: Codes, l: NameList, area: &mut [u8])
-    requires { ⌜ (l .count ≤ longestList) × CodesFit due (length (now area)) (namesIn l) ⌝ }
+fn write_due(due: bool, k: Codes, l: PointedList, area: &mut [u8])
+    requires { ⌜ (l .count ≤ longestList) × CodesFit due (length (now area)) (pointedIn l) ⌝ }
     ensures { λ _. ⌜ now (area .exit)
-        ≡ writtenIf due (take (length (namesIn l .asks)) (k .bytes)) (now (area .entry)) ⌝ }
+        ≡ writtenIf due (take (length (pointedIn l .asks)) (k .bytes)) (now (area .entry)) ⌝ }
 {
     if !due {
         return;

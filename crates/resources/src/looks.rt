@@ -2,6 +2,7 @@
 use crate::codes::Codes;
 use crate::codes::code;
 use kinds::NameList;
+use kinds::PointedList;
 use kinds::Ret;
 use kinds::TaskNumber;
 use queue::Queue;
@@ -12,7 +13,7 @@ use queue::looks::entered;
 ghost use mathlib.Core.Path.{_≡_};
 ghost use Prim.Native.Nat.{_≤_};
 ghost use Rattle.kinds.specs.Limits.{mostEntries, longestList};
-ghost use Rattle.names.specs.Named.{namesIn};
+ghost use Rattle.names.specs.Pointers.{pointedIn};
 ghost use Rattle.queue.specs.Queues.{entriesIn};
 ghost use Rattle.resources.specs.Coding.{wantsEntry, asksFree, allClear, clearFor};
 ghost use Rattle.resources.specs.Looking.{toldBy, enqLooks, deqLooks};
@@ -63,9 +64,9 @@ pub(crate) fn asks_free(ret: Ret) -> bool
 
 // Nobody else is in the way of a name: TEST and USE ask whether it is available, CHNG whether the caller alone owns it.
 // The codes of NONE and HAVE do not ask. Whether these wait is looked for only where they go on.
-fn clear_for(q: Queue, caller: TaskNumber, ret: Ret, l: NameList) -> Flags
+fn clear_for(q: Queue, caller: TaskNumber, ret: Ret, l: PointedList) -> Flags
     requires { ⌜ (q .count ≤ mostEntries) × (l .count ≤ longestList) ⌝ }
-    ensures { λ r. ⌜ r ≡ clearFor ret (entriesIn q) (caller .0) (namesIn l) ⌝ }
+    ensures { λ r. ⌜ r ≡ clearFor ret (entriesIn q) (caller .0) (pointedIn l) ⌝ }
 {
     if asks_free(ret) {
         return available(q, l);
@@ -99,9 +100,9 @@ fn told(has: Flags, wanted: bool, clear: Flags, n: u32) -> Looks
 }
 
 // Before ENQ.
-pub fn enq_looks(q: Queue, caller: TaskNumber, ret: Ret, l: NameList) -> Looks
+pub fn enq_looks(q: Queue, caller: TaskNumber, ret: Ret, l: PointedList) -> Looks
     requires { ⌜ (q .count ≤ mostEntries) × (l .count ≤ longestList) ⌝ }
-    ensures { λ r. ⌜ r ≡ enqLooks ret (entriesIn q) (caller .0) (namesIn l) ⌝ }
+    ensures { λ r. ⌜ r ≡ enqLooks ret (entriesIn q) (caller .0) (pointedIn l) ⌝ }
 {
     let has = entered(q, caller, l);
     let clear = clear_for(q, caller, ret, l);
@@ -110,9 +111,9 @@ pub fn enq_looks(q: Queue, caller: TaskNumber, ret: Ret, l: NameList) -> Looks
 }
 
 // Before DEQ, of either RET kind.
-pub fn deq_looks(q: Queue, caller: TaskNumber, l: NameList) -> Looks
+pub fn deq_looks(q: Queue, caller: TaskNumber, l: PointedList) -> Looks
     requires { ⌜ (q .count ≤ mostEntries) × (l .count ≤ longestList) ⌝ }
-    ensures { λ r. ⌜ r ≡ deqLooks (entriesIn q) (caller .0) (namesIn l) ⌝ }
+    ensures { λ r. ⌜ r ≡ deqLooks (entriesIn q) (caller .0) (pointedIn l) ⌝ }
 {
     let has = entered(q, caller, l);
     let clear = all_clear();

@@ -5,6 +5,7 @@ use mathlib.Core.List.{List, [], _∷_, _++_, map, map-append, append-nil}
 use Prim.Native.Nat.{ℕ, _+_, _*_, _≤_, _<_}
 use native.Mathlib.Omega.{arith}
 use mir.Val.{boolByte}
+use lib.Dec.{eqb}
 use lib.ListN.{length, getD, take, drop, length-append, length-map, length-take, take-append-drop, List·getD-map}
 use lib.Seq.{slice, slice-empty, take-take, take-all, length-take-le, getD-take}
 use Rattle.lists.specs.Lists.{keep, every, some, gathered}
@@ -13,9 +14,9 @@ use Rattle.lists.specs.Loops.{all-shown}
 use Rattle.lists.specs.Keeping.{keep-append, take-map}
 use Rattle.lists.specs.Changing.{map-next}
 use Rattle.kinds.specs.Limits.{mostEntries}
-use Rattle.kinds.specs.declared.names.Name.{Name}
+use Rattle.kinds.specs.declared.names.NameOffset.{NameOffset}
 use Rattle.kinds.specs.declared.names.Slot.{Slot}
-use Rattle.names.specs.Named.{resourceOf}
+use Rattle.names.specs.Pointers.{pointer, same-pointer}
 use Rattle.rules.specs.Names.{Resource, sameName, firsts}
 use Rattle.rules.specs.Control.{Entry, control}
 use Rattle.rules.specs.Reports.{Standing, standing, standingFor, queueItem, itemised, queuesOf, queuesList}
@@ -45,14 +46,16 @@ module _ (q : Queue) (k : ℕ) where
       ∙ sym (control-each (take k (entriesIn q)) e)
 
   -- one of them is for the name
-  pub some-named : (n : Name) → k ≤ q .count
-      → some (λ (s : Slot). sameName (resourceOf n) (resourceOf (s .name))) (take k (q .slots))
-      ≡ some (sameName (resourceOf n)) (entryNames (take k (entriesIn q)))
+  pub some-named : (n : NameOffset) → k ≤ q .count
+      → some (λ (s : Slot). eqb (n .0) (s .name .0)) (take k (q .slots))
+      ≡ some (sameName (pointer (n .0))) (entryNames (take k (entriesIn q)))
   some-named n h =
-      sym (ap (λ (l : List Entry). some (sameName (resourceOf n)) (entryNames l))
+      sym (ap (λ (l : List Entry). some (sameName (pointer (n .0))) (entryNames l))
       (take-take k (q .count) (map entryOf (q .slots)) h ∙ take-map entryOf k (q .slots))
-      ∙ some-of (λ (e : Entry). e .name) (sameName (resourceOf n)) (map entryOf (take k (q .slots)))
-      ∙ some-of entryOf (λ (e : Entry). sameName (resourceOf n) (e .name)) (take k (q .slots)))
+      ∙ some-of (λ (e : Entry). e .name) (sameName (pointer (n .0))) (map entryOf (take k (q .slots)))
+      ∙ some-of entryOf (λ (e : Entry). sameName (pointer (n .0)) (e .name)) (take k (q .slots))
+      ∙ some-same (λ (s : Slot). sameName (pointer (n .0)) (pointer (s .name .0)))
+      (λ (s : Slot). eqb (n .0) (s .name .0)) (λ s. same-pointer (n .0) (s .name .0)) (take k (q .slots)))
 
 -- THE ENTRIES FOR A NAME
 
@@ -97,42 +100,45 @@ items-now : (l : Listing) (xs : List Standing) → withItems queueItem l xs .ite
 items-now l [] = omega arith
 items-now l (x ∷ xs) = let e = items-now (withItem l (queueItem x)) xs in omega arith
 
-abbrev walked : Queue → ℕ → Name → ℕ → List Standing
-walked q i n j = standingFor (resourceOf n) (slice i j (standing (entriesIn q)))
+abbrev walked : Queue → ℕ → NameOffset → ℕ → List Standing
+walked q i n j = standingFor (pointer (n .0)) (slice i j (standing (entriesIn q)))
 
 -- the loop that has looked at the places i to j - 1
-pub record Walked (q : Queue) (i : ℕ) (n : Name) (l : Listing) (j : ℕ) (r : Listing) : Type 0 where
+pub record Walked (q : Queue) (i : ℕ) (n : NameOffset) (l : Listing) (j : ℕ) (r : Listing) : Type 0 where
   pub so-far : r ≡ withItems queueItem l (walked q i n j)
 
-pub walk-start : (q : Queue) (i : ℕ) (n : Name) (l : Listing) → Walked q i n l i l
+pub walk-start : (q : Queue) (i : ℕ) (n : NameOffset) (l : Listing) → Walked q i n l i l
 walk-start q i n l = record {
   so-far =
-      ap (λ (m : List Standing). withItems queueItem l (standingFor (resourceOf n) m))
+      ap (λ (m : List Standing). withItems queueItem l (standingFor (pointer (n .0)) m))
       (sym (slice-empty i (standing (entriesIn q))));
 }
 
-module _ {q : Queue} {i : ℕ} {n : Name} {l : Listing} {j : ℕ} {r : Listing} (v : Walked q i n l j r) where
+module _ {q : Queue} {i : ℕ} {n : NameOffset} {l : Listing} {j : ℕ} {r : Listing} (v : Walked q i n l j r) where
   pub walk-end : j ≡ q .count → q .count ≤ length (q .slots) → r ≡ withItems queueItem l (queueFrom q i n)
   walk-end e k =
       v .so-far ∙ ap (λ (m : ℕ). withItems queueItem l (walked q i n m)) e
-      ∙ ap (λ (m : List Standing). withItems queueItem l (standingFor (resourceOf n) (drop i m)))
+      ∙ ap (λ (m : List Standing). withItems queueItem l (standingFor (pointer (n .0)) (drop i m)))
       (take-all (q .count) (standing (entriesIn q)) (omega (arith, many q k)))
 
   -- the slot at place j, whose name is compared with n
-  module _ (low : i ≤ j) (h : j < q .count) (k : q .count ≤ length (q .slots)) (d : Slot) {b : Bool}
-      (t : b ≡ sameName (resourceOf (getD (q .slots) j d .name)) (resourceOf n)) where
+  module _ (low : i ≤ j) (h : j < q .count) (k : q .count ≤ length (q .slots)) (d : Slot) where
+    abbrev same : Bool
+    same = eqb (getD (q .slots) j d .name .0) (n .0)
+
     one-more : walked q i n (j + 1)
-        ≡ walked q i n j ++ cond b (standsAt q j (getD (q .slots) j d) ∷ []) []
+        ≡ walked q i n j ++ cond same (standsAt q j (getD (q .slots) j d) ∷ []) []
     one-more =
         let s = standing (entriesIn q) in
         let x = getD s j (standsAt q j d) in
-        ap (standingFor (resourceOf n)) (slice-more s i j low (standsAt q j d) (omega (arith, many q k)))
-        ∙ keep-append (λ (y : Standing). sameName (y .entry .name) (resourceOf n)) (slice i j s) (x ∷ [])
+        ap (standingFor (pointer (n .0))) (slice-more s i j low (standsAt q j d) (omega (arith, many q k)))
+        ∙ keep-append (λ (y : Standing). sameName (y .entry .name) (pointer (n .0))) (slice i j s) (x ∷ [])
         ∙ ap (λ (m : List Standing). walked q i n j ++ m)
-        (ap (λ (y : Standing). standingFor (resourceOf n) (y ∷ [])) (stands q j d h k)
-        ∙ ap (λ (a : Bool). cond a (standsAt q j (getD (q .slots) j d) ∷ []) []) (sym t))
+        (ap (λ (y : Standing). standingFor (pointer (n .0)) (y ∷ [])) (stands q j d h k)
+        ∙ ap (λ (a : Bool). cond a (standsAt q j (getD (q .slots) j d) ∷ []) [])
+        (same-pointer (getD (q .slots) j d .name .0) (n .0)))
 
-    pub walk-passed : b ≡ false → (r' : Listing) → r' ≡ r → Walked q i n l (j + 1) r'
+    pub walk-passed : same ≡ false → (r' : Listing) → r' ≡ r → Walked q i n l (j + 1) r'
     walk-passed f r' e = record {
       so-far =
           e ∙ v .so-far ∙ ap (withItems queueItem l)
@@ -140,7 +146,7 @@ module _ {q : Queue} {i : ℕ} {n : Name} {l : Listing} {j : ℕ} {r : Listing} 
           ∙ append-nil (walked q i n j)));
     }
 
-    module _ (f : b ≡ true) where
+    module _ (f : same ≡ true) where
       longer : walked q i n (j + 1) ≡ walked q i n j ++ (standsAt q j (getD (q .slots) j d) ∷ [])
       longer =
           one-more ∙ ap (λ (a : Bool). walked q i n j ++ cond a (standsAt q j (getD (q .slots) j d) ∷ []) []) f
@@ -157,15 +163,15 @@ module _ {q : Queue} {i : ℕ} {n : Name} {l : Listing} {j : ℕ} {r : Listing} 
       few : length (walked q i n j) + 1 ≤ length (queueFrom q i n)
       few =
           let s = standing (entriesIn q) in
-          let a : queueFrom q i n ≡ walked q i n (j + 1) ++ standingFor (resourceOf n) (drop (j + 1) s) =
-          ap (standingFor (resourceOf n)) (slice-rest s i (j + 1) (omega arith) (omega (arith, many q k)))
-          ∙ keep-append (λ (y : Standing). sameName (y .entry .name) (resourceOf n)) (slice i (j + 1) s)
+          let a : queueFrom q i n ≡ walked q i n (j + 1) ++ standingFor (pointer (n .0)) (drop (j + 1) s) =
+          ap (standingFor (pointer (n .0))) (slice-rest s i (j + 1) (omega arith) (omega (arith, many q k)))
+          ∙ keep-append (λ (y : Standing). sameName (y .entry .name) (pointer (n .0))) (slice i (j + 1) s)
           (drop (j + 1) s) in
           omega (
             arith,
             ap length a,
             ap length longer,
-            length-append (walked q i n (j + 1)) (standingFor (resourceOf n) (drop (j + 1) s)),
+            length-append (walked q i n (j + 1)) (standingFor (pointer (n .0)) (drop (j + 1) s)),
             length-append (walked q i n j) (standsAt q j (getD (q .slots) j d) ∷ []),
           )
 
@@ -228,7 +234,7 @@ module _ {q : Queue} {i : ℕ} {l : Listing} (v : Grouped q i l) (h : i < q .cou
     (d : Slot) where
   -- the name at place i
   abbrev named : Resource
-  named = resourceOf (getD (q .slots) i d .name)
+  named = pointer (getD (q .slots) i d .name .0)
 
   names-more : entryNames (take (i + 1) (entriesIn q)) ≡ entryNames (take i (entriesIn q)) ++ (named ∷ [])
   names-more =

@@ -2,8 +2,8 @@
 use mathlib.Core.List.{List, map}
 use Prim.Native.Nat.{ℕ}
 use lib.ListN.{drop}
-use Rattle.kinds.specs.declared.names.Name.{Name}
-use Rattle.names.specs.Named.{resourceOf}
+use Rattle.kinds.specs.declared.names.NameOffset.{NameOffset}
+use Rattle.names.specs.Pointers.{pointer}
 use Rattle.rules.specs.Names.{Resource}
 use Rattle.rules.specs.Control.{Entry}
 use Rattle.rules.specs.Reports.{Standing, standing, standingFor}
@@ -14,5 +14,5 @@ abbrev pub entryNames : List Entry → List Resource
 entryNames q = map (λ (e : Entry). e .name) q
 
 -- from place i on
-abbrev pub queueFrom : Queue → ℕ → Name → List Standing
-queueFrom q i n = standingFor (resourceOf n) (drop i (standing (entriesIn q)))
+abbrev pub queueFrom : Queue → ℕ → NameOffset → List Standing
+queueFrom q i n = standingFor (pointer (n .0)) (drop i (standing (entriesIn q)))

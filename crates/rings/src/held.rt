@@ -19,7 +19,7 @@ ghost use Rattle.queue.specs.Queues.{entryOf, entriesIn};
 ghost use Rattle.queue.specs.Marking.{markAt};
 ghost use Rattle.rings.specs.Listings.{mostBytes, storedItems, withItems, lineOf};
 
-// x, which stands ahead of e, is of another task that is marked, and bars it. Names come last, since they are long.
+// x, which stands ahead of e, is of another task that is marked, and bars it.
 fn holds_up(on: Marks, e: Slot, x: Slot) -> bool
     requires { ⌜ x .task .0 ≤ highestTask ⌝ }
     ensures { λ r. ⌜ r ≡ holdsUp (markAt on) (entryOf e) (entryOf x) ⌝ }

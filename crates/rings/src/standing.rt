@@ -2,7 +2,7 @@
 use crate::listing::Listing;
 use crate::listing::empty;
 use crate::listing::with_two;
-use kinds::Name;
+use kinds::NameOffset;
 use kinds::Slot;
 use queue::Queue;
 ghost use mathlib.Core.Path.{_≡_};
@@ -10,7 +10,7 @@ ghost use Prim.Native.Nat.{_+_, _*_, _≤_};
 ghost use lib.ListN.{length, take};
 ghost use Rattle.lists.specs.Lists.{some};
 ghost use Rattle.kinds.specs.Limits.{mostEntries};
-ghost use Rattle.names.specs.Named.{resourceOf};
+ghost use Rattle.names.specs.Pointers.{pointer};
 ghost use Rattle.rules.specs.Names.{sameName};
 ghost use Rattle.rules.specs.Control.{control};
 ghost use Rattle.rules.specs.Reports.{queueItem, queuesList};
@@ -35,15 +35,14 @@ fn owns(q: Queue, k: usize, x: Slot) -> bool
 }
 
 // One of the first i entries is for the name.
-fn named_before(q: Queue, i: usize, n: Name) -> bool
+fn named_before(q: Queue, i: usize, n: NameOffset) -> bool
     requires { ⌜ (i ≤ q .count) × (q .count ≤ mostEntries) ⌝ }
-    ensures { λ r. ⌜ r ≡ some (sameName (resourceOf n)) (entryNames (take i (entriesIn q))) ⌝ }
+    ensures { λ r. ⌜ r ≡ some (sameName (pointer (n .0))) (entryNames (take i (entriesIn q))) ⌝ }
 {
     let mut j = 0;
     while j < i {
         let y = q.slots[j];
-        let m = y.name;
-        if names::same_name(n, m) {
+        if n.0 == y.name.0 {
             return true;
         }
         j += 1;
@@ -52,7 +51,7 @@ fn named_before(q: Queue, i: usize, n: Name) -> bool
 }
 
 // The list, and behind it the entries for the name from place i on: where each stands, and whether it owns.
-fn with_queue(q: Queue, i: usize, n: Name, l: Listing) -> Listing
+fn with_queue(q: Queue, i: usize, n: NameOffset, l: Listing) -> Listing
     requires { ⌜ (i ≤ q .count) × (q .count ≤ mostEntries) ⌝ }
     requires { ⌜ l .count + 2 * length (queueFrom q i n) ≤ mostBytes ⌝ }
     requires { ⌜ l .items + length (queueFrom q i n) ≤ mostEntries ⌝ }
@@ -63,8 +62,7 @@ fn with_queue(q: Queue, i: usize, n: Name, l: Listing) -> Listing
     let mut j = i;
     while j < count {
         let x = q.slots[j];
-        let m = x.name;
-        if names::same_name(m, n) {
+        if x.name.0 == n.0 {
             let owner = owns(q, j, x);
             r = with_two(r, j as u8, owner as u8);
         }

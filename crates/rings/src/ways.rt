@@ -21,8 +21,7 @@ impl Ways {
     pub const PLACES: usize = Marks::PLACES * Marks::PLACES;
 }
 
-// There is a step from the task of e to the task of x, which stands before e: it is known, or x bars e. Names are
-// compared last.
+// There is a step from the task of e to the task of x, which stands before e: it is known, or x bars e.
 fn stepped(known: bool, x: Slot, e: Slot) -> bool
     ensures { λ r. ⌜ r ≡ (known || (not (eqb (e .task .0) (x .task .0)) && bars (entryOf x) (entryOf e))) ⌝ }
 {

@@ -1,7 +1,7 @@
 -- The one path of every request: sound tables, the gate, the service's body, its verdict.
-use mathlib.Core.Path.{_≡_, refl, sym, ap, subst, _∙_}
-use mathlib.Core.Bool.{Bool, true, false}
-use mathlib.Core.List.{List}
+use mathlib.Core.Path.{_≡_, refl, sym, ap, ap₂, subst, _∙_}
+use mathlib.Core.Bool.{Bool, true, false, not, _&&_}
+use mathlib.Core.List.{List, [], _∷_}
 use Prim.Native.Nat.{ℕ, _≤_}
 use lib.Dec.{leb}
 use native.Mathlib.Omega.{arith}
@@ -20,28 +20,34 @@ use Rattle.kinds.specs.declared.requests.Request.the-variants.{Attach, Detach, 
 use Rattle.kinds.specs.declared.requests.Request.the-variants.{Getmain, Freemain, Dispatch}
 use Rattle.kinds.specs.declared.replies.Reply.the-variants.{Dispatched}
 use Rattle.kinds.specs.declared.replies.Refusal.{Refusal}
-use Rattle.kinds.specs.declared.replies.Refusal.the-variants.{Unsound, OutOfRange}
+use Rattle.kinds.specs.declared.replies.Refusal.the-variants.{Unsound, OutOfRange, SystemName, ShortArea, NoEntryFree}
 use Rattle.kinds.specs.declared.replies.Fault.{Fault}
+use Rattle.kinds.specs.declared.replies.Fault.the-variants.{DuplicateEnq, DeqWithoutEntry}
 use Rattle.kinds.specs.declared.replies.Gate.{Gate}
 use Rattle.kinds.specs.declared.replies.Gate.the-variants.{Open, Shut}
 use Rattle.kinds.specs.declared.replies.Verdict.{Verdict}
 use Rattle.kinds.specs.declared.replies.Verdict.the-variants.{Go, Refuse, Fail}
-use Rattle.rules.specs.Tests.{firstOf}
-use Rattle.rules.specs.Names.{Names}
+use Rattle.rules.specs.Tests.{refuse, fail, firstOf}
+use Rattle.rules.specs.Names.{Names, namesGood, asksSystem}
 use Rattle.rules.specs.Events.{Ecbs}
 use Rattle.rules.specs.Steps.{Step, Outcome, Served, refused, doneWith, done, keptBy, untouched, overStep}
 use Rattle.rules.specs.Family.{place}
-use Rattle.rules.specs.Fresh.{freshStep, freshGood, freshOf}
-use Rattle.rules.specs.Sound.{soundStep}
+use Rattle.rules.specs.Fresh.{begunWith, freshStep, freshGood, freshOf}
 use Rattle.rules.specs.Ending.{failing}
-use Rattle.rules.specs.Admission.{admitted, gateOf, through, settled, codesThrough}
+use Rattle.rules.specs.Admission.{gateBy, admitted, gateOf, through, settled, codesThrough}
+use Rattle.rules.specs.Codes.{tooShort}
+use Rattle.rules.specs.Enq.{enqGood, enqCodesDue, duplicated, tooFewFree}
+use Rattle.rules.specs.Deq.{deqCodesDue, unentered}
 use Rattle.rules.specs.Dispatch.{dispatched, dispatchBody}
 use Rattle.rules.specs.Form.{callerOf}
 use Rattle.rules.specs.Serve.{Asked, serviceOf, serviceTests, ownTests}
+use Rattle.laws.specs.RenamedSteps.{NamesTested}
 use Rattle.laws.specs.Tested.{gateAt, tested, gated as behindGate}
 use Rattle.laws.specs.Answering.{Sorts, service-sorts}
 use Rattle.laws.specs.Answering.Sorts.{refuses, fails, goes}
-use Rattle.tables.specs.Tables.{soundTables, Packed, Admitted}
+use Rattle.namearea.specs.Areas.{areaOf}
+use Rattle.namearea.specs.declared.area.NameArea.{NameArea}
+use Rattle.tables.specs.Tables.{Admitted}
 use Rattle.tables.specs.Tables as all
 use Rattle.tables.specs.Bodies.{Told, told, bodyOf}
 use Rattle.tables.specs.declared.AllTables.{AllTables}
@@ -49,22 +55,13 @@ use Rattle.tables.specs.declared.made.Made.{Made}
 use Rattle.tables.proofs.Admits as admits
 use Rattle.services.specs.Kept.{inTables, stepOf, tablesOf, said, saidWith, servedBy, soundb, answered}
 use Rattle.services.specs.Kept.{answeredWith}
-use Rattle.services.specs.Serve.{servedOf, callerIn, gateFor, gated, Behind, Ends, settledAs, Settles}
+use Rattle.services.specs.Serve.{servedOf, callerIn, gateFor, gated, namedBy, bothGates, entryOf, Admits, Behind}
+use Rattle.services.specs.Serve.{Ends, settledAs, servedIn, Settles}
 use Rattle.services.specs.declared.Tables.{Tables}
 use Rattle.services.specs.declared.Answer.{Answer}
 use Rattle.services.specs.declared.Caller.{Caller}
 use Rattle.services.specs.declared.Caller.the-variants.{Nobody, Named}
-
--- SOUND TABLES KEEP THEIR STEP
-
-pub sound-packed : (t : Tables) → soundb t ≡ true → Packed (t .all)
-sound-packed t h = admits.sound-packed (t .all) h
-
-pub sound-step : (t : Tables) → soundb t ≡ true → soundStep (stepOf t) ≡ true
-sound-step t h = admits.sound-step (t .all) h
-
-pub sound-tables : (t : Tables) → soundb t ≡ true → tablesOf (stepOf t) ≡ t
-sound-tables t h = ap inTables (admits.packed-tables (t .all) (sound-packed t h))
+use Rattle.services.proofs.Names.{sound-tables}
 
 -- a refusal leaves the tables as they are
 pub refused-kept : (t : Tables) (why : Refusal) → soundb t ≡ true
@@ -76,34 +73,36 @@ refused-kept t why h = ap (refused why) (sym (sound-tables t h))
 shut-open : {A : Type 0} (why : Refusal) → Shut why ≡ Open → A
 shut-open why e = absurd (let z : _≡_ {A = ℕ} 0 1 = cc in omega arith)
 
-module _ (t : AllTables) (k : Step → Gate) where
-  pub gate-unsound : soundTables t ≡ false → Shut Unsound ≡ gated t k
+module _ (t : Tables) (k : Step → Gate) where
+  pub gate-unsound : soundb t ≡ false → Shut Unsound ≡ gated t k
   unfolding gated pick
   gate-unsound h = rw h
 
-  pub gate-is : (g : Gate) → soundTables t ≡ true → g ≡ k (all.stepOf t) → g ≡ gated t k
+  pub gate-is : (g : Gate) → soundb t ≡ true → g ≡ k (stepOf t) → g ≡ gated t k
   unfolding gated pick
   gate-is g h e = rw h e
 
-  gate-cases : (b : Bool) → soundTables t ≡ b → gated t k ≡ pick b (k (all.stepOf t)) (Shut Unsound)
+  gate-cases : (b : Bool) → soundb t ≡ b → gated t k ≡ pick b (k (stepOf t)) (Shut Unsound)
   unfolding gated
   gate-cases b e = rw e
 
-  open-sound : (b : Bool) → soundTables t ≡ b → gated t k ≡ Open → soundTables t ≡ true
+  open-sound : (b : Bool) → soundb t ≡ b → gated t k ≡ Open → soundb t ≡ true
   unfolding pick
   open-sound true e h = e
   open-sound false e h = shut-open Unsound (sym (gate-cases false e) ∙ h)
 
-  pub gate-opens : (g : Gate) → g ≡ gated t k → g ≡ Open → (soundTables t ≡ true) × (k (all.stepOf t) ≡ Open)
+  pub gate-opens : (g : Gate) → g ≡ gated t k → g ≡ Open → (soundb t ≡ true) × (k (stepOf t) ≡ Open)
   unfolding pick
   gate-opens g e h =
-      let b = open-sound (soundTables t) refl (sym e ∙ h) in (b, sym (gate-cases true b) ∙ sym e ∙ h)
+      let b = open-sound (soundb t) refl (sym e ∙ h) in (b, sym (gate-cases true b) ∙ sym e ∙ h)
 
-pub caller-gate : (t : AllTables) (c : TaskNumber) (g : Gate) (a b : Bool) (x : Task) → g ≡ admitted (t .over) a b
+-- the caller's place is the same with names and with pointers
+pub caller-gate : (t : AllTables) (bytes : List ℕ) (c : TaskNumber) (g : Gate) (a b : Bool) (x : Task)
+    → g ≡ admitted (t .over) a b
     → a ≡ isLive (x .condition) → b ≡ waits (x .condition)
-    → x ≡ place (t .tasks .places) (c .0) → g ≡ gateOf (all.stepOf t) c
+    → x ≡ place (t .tasks .places) (c .0) → g ≡ gateOf (stepOf (inTables t bytes)) c
 unfolding gateOf
-caller-gate t c g a b x e u v w =
+caller-gate t bytes c g a b x e u v w =
     e ∙ rw (u, v) (ap (λ (y : Task). admitted (t .over) (isLive (y .condition)) (waits (y .condition))) w)
 
 -- whoever a request names, the gate is the one of the request
@@ -121,32 +120,119 @@ gate-named s (Getmain c bytes subpool conditional) = refl
 gate-named s (Freemain c address bytes subpool) = refl
 gate-named s Dispatch = refl
 
-pub gate-behind : (t : AllTables) (q : Request) (w : Caller) (g : Gate) → w ≡ callerIn q → g ≡ gated t (gateFor w)
-    → g ≡ Open → Behind t q
-gate-behind t q w g n e h =
-    let o = gate-opens t (gateFor w) g e h in
+-- THE GATE OF THE NAMES
+
+-- one that is open
+names-open : (q : Request) (ns : Names) → namedBy q ns ≡ Open → NamesTested q ns
+unfolding pick
+names-open (Attach c lpmod dpmod ecb) ns h = tt
+names-open (Detach c task) ns h = tt
+names-open (End c code) ns h = tt
+names-open (Abend c code step) ns h = tt
+names-open (Enq c ret) ns h = one (enqGood ret ns) (asksSystem ns) refl refl h
+  where
+    one : (a b : Bool) → enqGood ret ns ≡ a → asksSystem ns ≡ b
+        → gateBy (pick (not a) (Refuse OutOfRange) (pick b (Refuse SystemName) Go)) ≡ Open
+        → (enqGood ret ns ≡ true) × (asksSystem ns ≡ false)
+    one true false x y e = (x, y)
+    one true true x y e = shut-open SystemName e
+    one false b x y e = shut-open OutOfRange e
+names-open (Deq c ret) ns h = one (namesGood ns) refl h
+  where
+    one : (a : Bool) → namesGood ns ≡ a → gateBy (pick (not a) (Refuse OutOfRange) Go) ≡ Open → namesGood ns ≡ true
+    one true x e = x
+    one false x e = shut-open OutOfRange e
+names-open (Wait c n) ns h = tt
+names-open (Post c e code) ns h = tt
+names-open (Clear c e) ns h = tt
+names-open (Getmain c bytes subpool conditional) ns h = tt
+names-open (Freemain c address bytes subpool) ns h = tt
+names-open Dispatch ns h = tt
+
+-- one that is shut says what the first of the request's tests says
+names-shut : (s : Step) (q : Request) (ns : Names) (es : Ecbs) (space : ℕ) (why : Refusal) → namedBy q ns ≡ Shut why
+    → firstOf (ownTests s q ns es space) ≡ Refuse why
+unfolding pick
+names-shut s (Attach c lpmod dpmod ecb) ns es space why h = shut-open why (sym h)
+names-shut s (Detach c task) ns es space why h = shut-open why (sym h)
+names-shut s (End c code) ns es space why h = shut-open why (sym h)
+names-shut s (Abend c code step) ns es space why h = shut-open why (sym h)
+names-shut s (Enq c ret) ns es space why h = one (enqGood ret ns) (asksSystem ns) h
+  where
+    rest : Verdict
+    rest =
+        firstOf (refuse ShortArea (enqCodesDue ret && tooShort space ns)
+        ∷ fail DuplicateEnq (duplicated ret (s .queue) (c .0) ns)
+        ∷ refuse NoEntryFree (tooFewFree ret (s .queue) (c .0) ns) ∷ [])
+
+    one : (a b : Bool) → gateBy (pick (not a) (Refuse OutOfRange) (pick b (Refuse SystemName) Go)) ≡ Shut why
+        → pick (not a) (Refuse OutOfRange) (pick b (Refuse SystemName) rest) ≡ Refuse why
+    one true false e = shut-open why (sym e)
+    one true true e = let z : SystemName ≡ why = cc in ap Refuse z
+    one false b e = let z : OutOfRange ≡ why = cc in ap Refuse z
+names-shut s (Deq c ret) ns es space why h = one (namesGood ns) h
+  where
+    rest : Verdict
+    rest =
+        firstOf (refuse ShortArea (deqCodesDue ret && tooShort space ns)
+        ∷ fail DeqWithoutEntry (unentered ret (s .queue) (c .0) ns) ∷ [])
+
+    one : (a : Bool) → gateBy (pick (not a) (Refuse OutOfRange) Go) ≡ Shut why
+        → pick (not a) (Refuse OutOfRange) rest ≡ Refuse why
+    one true e = shut-open why (sym e)
+    one false e = let z : OutOfRange ≡ why = cc in ap Refuse z
+names-shut s (Wait c n) ns es space why h = shut-open why (sym h)
+names-shut s (Post c e code) ns es space why h = shut-open why (sym h)
+names-shut s (Clear c e) ns es space why h = shut-open why (sym h)
+names-shut s (Getmain c bytes subpool conditional) ns es space why h = shut-open why (sym h)
+names-shut s (Freemain c address bytes subpool) ns es space why h = shut-open why (sym h)
+names-shut s Dispatch ns es space why h = shut-open why (sym h)
+
+-- BOTH GATES
+
+gates-open : (g k : Gate) → bothGates g k ≡ Open → (g ≡ Open) × (k ≡ Open)
+gates-open Open k h = (refl, h)
+gates-open (Shut why) k h = shut-open why h
+
+-- how they come out
+module _ (t : Tables) (q : Request) (ns : Names) (w : Caller) (g : Gate) (n : w ≡ callerIn q)
+    (e : g ≡ gated t (gateFor w)) where
+  entry-is : g ≡ gated t (gateFor (callerIn q))
+  entry-is = e ∙ ap (λ (x : Caller). gated t (gateFor x)) n
+
+  pub entry-refused : (why : Refusal) → g ≡ Shut why → Shut why ≡ entryOf t q ns
+  entry-refused why h = ap (λ (x : Gate). bothGates x (namedBy q ns)) (sym h ∙ entry-is)
+
+  pub entry-named : (k : Gate) → g ≡ Open → k ≡ namedBy q ns → k ≡ entryOf t q ns
+  entry-named k h m = m ∙ ap (λ (x : Gate). bothGates x (namedBy q ns)) (sym h ∙ entry-is)
+
+pub entry-admits : (t : Tables) (q : Request) (ns : Names) (g : Gate) → g ≡ entryOf t q ns → g ≡ Open → Admits t q ns
+entry-admits t q ns g e h =
+    let b = gates-open (gated t (gateFor (callerIn q))) (namedBy q ns) (sym e ∙ h) in
+    let o = gate-opens t (gateFor (callerIn q)) (gated t (gateFor (callerIn q))) refl (b .0) in
     record {
       sound = o .0;
-      gate = sym (gate-named (all.stepOf t) q) ∙ ap (λ (x : Caller). gateFor x (all.stepOf t)) (sym n) ∙ o .1;
+      gate = sym (gate-named (stepOf t) q) ∙ o .1;
+      names = names-open q ns (b .1);
     }
 
 -- A GATE THAT IS SHUT
 
 -- refuses and writes nothing, where the rules say so of it
 module _ (t : Tables) (area : List ℕ) (k : Step → Gate) (f : Step → List ℕ → Served Step) where
-  shut-is : (s : Outcome Tables) (why : Refusal) (b : Bool) → soundb t ≡ b → gated (t .all) k ≡ Shut why
+  shut-is : (s : Outcome Tables) (why : Refusal) (b : Bool) → soundb t ≡ b → gated t k ≡ Shut why
       → s ≡ refused why t
       → (k (stepOf t) ≡ Shut why → f (stepOf t) area ≡ untouched area (refused why (stepOf t)))
       → untouched area s ≡ answeredWith t area f
   unfolding answeredWith pick
   shut-is s why true e h a l =
-      let g : k (stepOf t) ≡ Shut why = sym (gate-cases (t .all) k true e) ∙ h in
+      let g : k (stepOf t) ≡ Shut why = sym (gate-cases t k true e) ∙ h in
       rw e (ap (untouched area) (a ∙ refused-kept t why e) ∙ ap servedBy (sym (l g)))
   shut-is s why false e h a l =
-      let g : why ≡ Unsound = cc (gate-cases (t .all) k false e) in
+      let g : why ≡ Unsound = cc (gate-cases t k false e) in
       rw e (ap (untouched area) (a ∙ ap (λ (w : Refusal). refused w t) g))
 
-  pub served-shut : (s : Outcome Tables) (g : Gate) (why : Refusal) → g ≡ gated (t .all) k → g ≡ Shut why
+  pub served-shut : (s : Outcome Tables) (g : Gate) (why : Refusal) → g ≡ gated t k → g ≡ Shut why
       → s ≡ refused why t
       → (k (stepOf t) ≡ Shut why → f (stepOf t) area ≡ untouched area (refused why (stepOf t)))
       → untouched area s ≡ answeredWith t area f
@@ -176,22 +262,41 @@ module _ (t : Tables) (q : Request) (ns : Names) (es : Ecbs) (area : List ℕ) w
   asked = record { request = q; names = ns; ecbs = es; area = area }
 
   -- a gate that is shut refuses, whatever is asked
-  pub serve-shut : (w : Caller) (g : Gate) (why : Refusal) (s : Outcome Tables) → w ≡ callerIn q
-      → g ≡ gated (t .all) (gateFor w) → g ≡ Shut why → s ≡ refused why t → untouched area s ≡ servedOf t asked
+  serve-shut : (why : Refusal) (s : Outcome Tables) → gated t (gateFor (callerIn q)) ≡ Shut why → s ≡ refused why t
+      → untouched area s ≡ servedOf t asked
   unfolding servedOf
-  serve-shut w g why s n e h a =
-      served-shut t area (gateFor w) (λ u l. serviceOf u q ns es l) s g why e h a
-      (λ k. service-shut (stepOf t) q ns es area why
-      (sym (gate-named (stepOf t) q) ∙ ap (λ (x : Caller). gateFor x (stepOf t)) (sym n) ∙ k))
+  serve-shut why s h a =
+      served-shut t area (gateFor (callerIn q)) (λ u l. serviceOf u q ns es l) s _ why refl h a
+      (λ k. service-shut (stepOf t) q ns es area why (sym (gate-named (stepOf t) q) ∙ k))
 
-  -- behind an open one stands what the verdict of the service comes to
-  pub serve-open : (w : Caller) (k : Made) (left : List ℕ) (s : Outcome Tables) → w ≡ callerIn q → soundb t ≡ true
-      → Settles (t .all) ns es area k left q → s ≡ keptBy inTables (settledAs (told k) w)
-      → untouched left s ≡ servedOf t asked
+  -- and so do names that are refused
+  named-shut : (why : Refusal) (s : Outcome Tables) → gated t (gateFor (callerIn q)) ≡ Open → namedBy q ns ≡ Shut why
+      → s ≡ refused why t → untouched area s ≡ servedOf t asked
   unfolding servedOf answeredWith
-  serve-open w k left s n h b e =
-      on-true (soundb t) _ _ _ h
-      (ap (untouched left) (e ∙ ap (λ (x : Caller). keptBy inTables (settledAs (told k) x)) n) ∙ b .says)
+  named-shut why s h n a =
+      let o = gate-opens t (gateFor (callerIn q)) _ refl h in
+      let g : gateAt (stepOf t) q ≡ Open = sym (gate-named (stepOf t) q) ∙ o .1 in
+      on-true (soundb t) _ _ _ (o .0)
+      (ap (untouched area) (a ∙ refused-kept t why (o .0))
+      ∙ ap servedBy (sym (shut-sorts (stepOf t) q ns es area why _
+      (tested (stepOf t) q ns es (length area) .behind
+      ∙ ap₂ behindGate g (names-shut (stepOf t) q ns es (length area) why n))
+      (service-sorts (stepOf t) q ns es area))))
+
+  pub entry-shut : (g : Gate) (why : Refusal) (s : Outcome Tables) → g ≡ entryOf t q ns → g ≡ Shut why
+      → s ≡ refused why t → untouched area s ≡ servedOf t asked
+  entry-shut g why s e h a = one (gated t (gateFor (callerIn q))) refl (sym e ∙ h)
+    where
+      one : (k : Gate) → gated t (gateFor (callerIn q)) ≡ k → bothGates k (namedBy q ns) ≡ Shut why
+          → untouched area s ≡ servedOf t asked
+      one Open k z = named-shut why s k z a
+      one (Shut w) k z = let y : w ≡ why = cc in serve-shut why s (k ∙ ap Shut y) a
+
+  -- behind open ones stands what the rules say of the step
+  pub serve-open : (o : Served Tables) → Admits t q ns → o ≡ servedBy (serviceOf (stepOf t) q ns es area)
+      → o ≡ servedOf t asked
+  unfolding servedOf answeredWith
+  serve-open o b e = on-true (soundb t) _ _ _ (b .sound) e
 
   -- the answer alone
   pub plain-said : (r : Answer) (left : List ℕ) → saidWith r left ≡ servedOf t asked
@@ -224,11 +329,10 @@ module _ (t : AllTables) (c : TaskNumber) (a : Admitted t c) (v : Verdict) (o : 
   settles (Fail what) = refl
 
   -- what the verdict comes to is what the rules say
-  settles-so : keptBy inTables (settledAs (told k) (Named c))
-      ≡ keptBy tablesOf (through (gateOf (all.stepOf t) c) (all.stepOf t) (settled v (all.stepOf t) c o))
+  settles-so : settledAs (told k) (Named c)
+      ≡ keptBy all.tablesOf (through (gateOf (all.stepOf t) c) (all.stepOf t) (settled v (all.stepOf t) c o))
   unfolding through
-  settles-so =
-      rw (a .gate) (ap (λ (x : Told). keptBy inTables (settledAs x (Named c))) e ∙ ap (keptBy inTables) (settles v))
+  settles-so = rw (a .gate) (ap (λ (x : Told). settledAs x (Named c)) e ∙ settles v)
 
   -- so it is of a request of its caller
   body-settles : (q : Request) → callerIn q ≡ Named c → (ns : Names) (es : Ecbs) (area left : List ℕ)
@@ -237,8 +341,8 @@ module _ (t : AllTables) (c : TaskNumber) (a : Admitted t c) (v : Verdict) (o : 
       → Settles t ns es area k left q
   body-settles q n ns es area left so = record {
     says =
-        ap (λ (w : Caller). untouched left (keptBy inTables (settledAs (told k) w))) n
-        ∙ ap (untouched left) settles-so ∙ ap servedBy (sym so);
+        ap (λ (w : Caller). untouched left (settledAs (told k) w)) n
+        ∙ ap (untouched left) settles-so ∙ ap servedIn (sym so);
     ends = λ what h. subst (Ends (k .tables)) (sym n) (fails-admitted what h);
   }
 
@@ -255,6 +359,13 @@ module _ (t : AllTables) (c : TaskNumber) (a : Admitted t c) (v : Verdict) (o : 
       (so ∙ ap (λ (x : List ℕ). untouched x
       (through (gateOf (all.stepOf t) c) (all.stepOf t) (settled v (all.stepOf t) c o))) l)
 
+-- what the verdict of a body comes to
+pub settles-comes : (t : AllTables) (q : Request) (ns : Names) (es : Ecbs) (area left : List ℕ) (k : Made) (w : Caller)
+    (o : Outcome AllTables) → w ≡ callerIn q → Settles t ns es area k left q → o ≡ settledAs (told k) w
+    → untouched left o ≡ servedIn (serviceOf (all.stepOf t) q ns es area)
+settles-comes t q ns es area left k w o n b e =
+    ap (untouched left) (e ∙ ap (settledAs (told k)) n) ∙ b .says
+
 -- a request q that is known to be k
 module _ (t : AllTables) (q k : Request) (e : q ≡ k) where
   pub known : {ns : Names} {es : Ecbs} {area left : List ℕ} {r : Made} → Settles t ns es area r left k
@@ -262,7 +373,11 @@ module _ (t : AllTables) (q k : Request) (e : q ≡ k) where
   known {ns = ns} {es = es} {area = area} {left = left} {r = r} = subst (Settles t ns es area r left) (sym e)
 
   -- and names its caller
-  module _ (b : Behind t q) (c : TaskNumber) (n : gateAt (all.stepOf t) k ≡ gateOf (all.stepOf t) c) where
+  module _ (l : Names) (b : Behind t q l) (c : TaskNumber) (n : gateAt (all.stepOf t) k ≡ gateOf (all.stepOf t) c) where
+    -- with names that have passed their tests
+    pub behind-names : NamesTested k l
+    behind-names = subst (λ (x : Request). NamesTested x l) e (b .names)
+
     pub behind-admits : Admitted t c
     behind-admits = record { sound = b .sound; gate = sym (ap (gateAt (all.stepOf t)) e ∙ n) ∙ b .gate }
 
@@ -284,20 +399,31 @@ module _ (t : AllTables) (q k : Request) (e : q ≡ k) where
 
 -- DISPATCH changes nothing
 pub dispatch-settles : (t : AllTables) (n : TaskNumber) (k : Made) (ns : Names) (es : Ecbs) (area : List ℕ)
-    → Behind t Dispatch → n .0 ≡ dispatched (t .tasks .places)
+    → Behind t Dispatch ns → n .0 ≡ dispatched (t .tasks .places)
     → k ≡ record { verdict = Go; reply = Dispatched n; tables = t } → Settles t ns es area k area Dispatch
 unfolding serviceOf dispatchBody through settledAs told
 dispatch-settles t n k ns es area b e h = record {
   says =
-      ap (λ (x : Made). untouched area (keptBy inTables (settledAs (told x) Nobody))) h
-      ∙ rw (b .gate) (ap (λ (m : ℕ). untouched area (doneWith (TheNumber (record { 0 = m })) (inTables t))) e
+      ap (λ (x : Made). untouched area (settledAs (told x) Nobody)) h
+      ∙ rw (b .gate) (ap (λ (m : ℕ). untouched area (doneWith (TheNumber (record { 0 = m })) t)) e
       ∙ ap (λ (u : AllTables). untouched area
-      (doneWith (TheNumber (record { 0 = dispatched (t .tasks .places) })) (inTables u)))
+      (doneWith (TheNumber (record { 0 = dispatched (t .tasks .places) })) u))
       (sym (admits.sound-tables t (b .sound))));
   ends = λ what f. absurd (let z : _≡_ {A = ℕ} 0 1 = cc in omega arith);
 }
 
 -- A FRESH START
+
+-- no name is in use: of a step that is over, and of one that begins
+pub over-kept : (code : ℕ) {a : AllTables} {n : NameArea} → a ≡ all.tablesOf (overStep code) → n ≡ areaOf []
+    → _≡_ {A = Tables} (record { all = a; names = n }) (tablesOf (overStep code))
+unfolding overStep
+over-kept code e f = λ i. record { all = e i; names = f i }
+
+pub begun-kept : (first : Task) {a : AllTables} {n : NameArea} → a ≡ all.tablesOf (begunWith first) → n ≡ areaOf []
+    → _≡_ {A = Tables} (record { all = a; names = n }) (tablesOf (begunWith first))
+unfolding begunWith overStep
+begun-kept first e f = λ i. record { all = e i; names = f i }
 
 module _ (limit dispatching : ℕ) where
   pub fresh-refused : freshGood limit dispatching ≡ false → freshOf limit dispatching ≡ refused OutOfRange (overStep 0)

@@ -7,16 +7,11 @@ use Rattle.lists.specs.Pick.{pick-true}
 use Rattle.kinds.proofs.Once.{reply-once}
 use Rattle.rules.specs.Steps.{Step, Outcome, Served, keptBy}
 use Rattle.rules.specs.Fresh.{freshOf}
-use Rattle.laws.specs.Failing.{Sound}
 use Rattle.laws.specs.Kept.{fresh-sound}
-use Rattle.tables.proofs.Admits as admits
 use Rattle.services.specs.Kept.{stepOf, tablesOf, said, saidWith, soundb, answered}
 use Rattle.services.specs.declared.Tables.{Tables}
 use Rattle.services.specs.declared.Answer.{Answer}
-
--- A SOUND STEP is kept in sound tables
-pub sound-kept : (s : Step) → Sound s → soundb (tablesOf s) ≡ true
-sound-kept s h = admits.sound-kept s h
+use Rattle.services.proofs.Names.{sound-kept}
 
 -- WHAT IS ANSWERED on sound tables
 module _ (t : Tables) (f : Step → Outcome Step) (h : soundb t ≡ true) where

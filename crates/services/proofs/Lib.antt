@@ -4,3 +4,5 @@ pub mod Reporting
 pub mod Serves
 pub mod Demands
 pub mod Promises
+pub mod Names
+pub mod Served

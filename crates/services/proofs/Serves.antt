@@ -17,8 +17,9 @@ use Rattle.laws.specs.Answering.{refusal-once, no-refusal-fault, refusal-untouc
 use Rattle.services.specs.Kept.{stepOf, servedBy, soundb, answered, answeredWith}
 use Rattle.services.specs.Serve.{servedOf}
 use Rattle.services.specs.declared.Tables.{Tables}
-use Rattle.services.proofs.Glue.{sound-step, refused-kept}
-use Rattle.services.proofs.Leaves.{sound-kept, answered-is}
+use Rattle.services.proofs.Names.{sound-step, sound-kept}
+use Rattle.services.proofs.Glue.{refused-kept}
+use Rattle.services.proofs.Leaves.{answered-is}
 
 abbrev numberOf : Served Tables → ℕ
 numberOf o = o .outcome .number

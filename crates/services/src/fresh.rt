@@ -8,6 +8,7 @@ use kinds::Refusal;
 use kinds::Reply;
 use kinds::Task;
 use kinds::TaskNumber;
+use namearea::NameArea;
 use tables::AllTables;
 ghost use mathlib.Core.Path.{_≡_};
 ghost use Rattle.rules.specs.Steps.{keptBy};
@@ -42,7 +43,11 @@ impl Tables {
         ensures { λ r. ⌜ said r ≡ keptBy tablesOf (freshOf limit dispatching) ⌝ }
     {
         if !fresh_good(limit, dispatching) {
-            return answering(tables::over_with(0), Reply::Refused(Refusal::OutOfRange));
+            let t = Tables {
+                all: tables::over_with(0),
+                names: NameArea::empty(),
+            };
+            return answering(t, Reply::Refused(Refusal::OutOfRange));
         }
         let first = Task {
             condition: Condition::Ready,
@@ -51,7 +56,10 @@ impl Tables {
             dispatching: dispatching as u8,
             ecb: MaybeEcb::NoEcb,
         };
-        let t = begun(first);
+        let t = Tables {
+            all: begun(first),
+            names: NameArea::empty(),
+        };
         answering(t, Reply::Done)
     }
 }

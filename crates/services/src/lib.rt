@@ -10,6 +10,7 @@ pub mod enq;
 pub mod freemain;
 pub mod fresh;
 pub mod getmain;
+mod naming;
 pub mod post;
 pub mod queues;
 pub mod serve;
@@ -22,22 +23,32 @@ use kinds::Refusal;
 use kinds::Reply;
 use kinds::TaskNumber;
 use kinds::Verdict;
+use namearea::NameArea;
 use tables::AllTables;
 use tables::made::Made;
 ghost use mathlib.Core.Path.{_≡_};
-ghost use Rattle.rules.specs.Steps.{keptBy};
+ghost use lib.ListN.{length};
+ghost use Rattle.kinds.specs.Limits.{nameArea};
 ghost use Rattle.rules.specs.Admission.{admitted};
 ghost use Rattle.tables.specs.Bodies.{replied, told};
 ghost use Rattle.services.specs.Kept.{inTables, said, soundb};
 ghost use Rattle.services.specs.Serve.{gated, gateFor, Ends, endedBy, settledAs, EndsIfFailed};
 
+// All tables, in which an entry points to its name, and the names that are in use.
 pub struct Tables {
     pub all: AllTables,
+    pub names: NameArea,
 }
 
 pub struct Answer {
     pub tables: Tables,
     pub reply: Reply,
+}
+
+// What a verdict comes to, before the names that it leaves are packed.
+struct Upshot {
+    tables: AllTables,
+    reply: Reply,
 }
 
 // Whom a request names: the calling task, or nobody, as DISPATCH and the reports.
@@ -51,8 +62,25 @@ impl Tables {
     pub fn sound(self) -> bool
         ensures { λ r. ⌜ r ≡ soundb self ⌝ }
     {
-        tables::sound::sound(self.all)
+        is_sound(self.all, &self.names.bytes)
     }
+}
+
+// The rules, with offsets for names; then that the area holds what the offsets show and nothing else; then the rules
+// on the names themselves.
+fn is_sound(t: AllTables, names: &[u8]) -> bool
+    requires { ⌜ length (now names) ≡ nameArea ⌝ }
+    ensures { λ r. ⌜ r ≡ soundb (inTables t (now (names .entry))) ⌝ }
+{
+    if !tables::sound::sound(t) {
+        return false;
+    }
+    let at = queue::offsets::offsets_of(t.queue);
+    let n = t.queue.count;
+    if !namearea::scan(&at.of, n, names) {
+        return false;
+    }
+    namearea::lawful::names_lawful(&at.of, n, names)
 }
 
 // 108, 102 and 103, in the paper's order.
@@ -72,10 +100,11 @@ fn admit(over: bool, live: bool, waits: bool) -> Gate
 }
 
 // The one gate: 100, then 108, and of whoever is named 102 and 103.
-fn gate(t: AllTables, who: Caller) -> Gate
-    ensures { λ r. ⌜ r ≡ gated t (gateFor who) ⌝ }
+fn gate(t: AllTables, names: &[u8], who: Caller) -> Gate
+    requires { ⌜ length (now names) ≡ nameArea ⌝ }
+    ensures { λ r. ⌜ r ≡ gated (inTables t (now (names .entry))) (gateFor who) ⌝ }
 {
-    if !tables::sound::sound(t) {
+    if !is_sound(t, names) {
         return Gate::Shut(Refusal::Unsound);
     }
     match who {
@@ -88,13 +117,10 @@ fn gate(t: AllTables, who: Caller) -> Gate
     }
 }
 
-fn answering(t: AllTables, reply: Reply) -> Answer
-    ensures { λ r. ⌜ said r ≡ replied reply (inTables t) ⌝ }
+fn answering(t: Tables, reply: Reply) -> Answer
+    ensures { λ r. ⌜ said r ≡ replied reply t ⌝ }
 {
-    Answer {
-        tables: Tables { all: t },
-        reply,
-    }
+    Answer { tables: t, reply }
 }
 
 // A program error ends its caller, with its number. Only a caller's request can fail, so there is one.
@@ -108,17 +134,23 @@ fn ended_by(t: AllTables, who: Caller, what: Fault) -> AllTables
     }
 }
 
+fn replying(t: AllTables, reply: Reply) -> Upshot
+    ensures { λ r. ⌜ replied (r .reply) (r .tables) ≡ replied reply t ⌝ }
+{
+    Upshot { tables: t, reply }
+}
+
 // What the verdict of a service comes to: only where it is to go on does the service's own answer stand. A body that
 // does not go on leaves the tables as it got them.
-fn settled(who: Caller, k: Made) -> Answer
+fn settled(who: Caller, k: Made) -> Upshot
     requires { ⌜ EndsIfFailed k who ⌝ }
-    ensures { λ r. ⌜ said r ≡ keptBy inTables (settledAs (told k) who) ⌝ }
+    ensures { λ r. ⌜ replied (r .reply) (r .tables) ≡ settledAs (told k) who ⌝ }
 {
     let verdict = k.verdict;
     let reply = k.reply;
     match verdict {
-        Verdict::Go => answering(k.tables, reply),
-        Verdict::Refuse(why) => answering(k.tables, Reply::Refused(why)),
-        Verdict::Fail(what) => answering(ended_by(k.tables, who, what), Reply::Failed(what)),
+        Verdict::Go => replying(k.tables, reply),
+        Verdict::Refuse(why) => replying(k.tables, Reply::Refused(why)),
+        Verdict::Fail(what) => replying(ended_by(k.tables, who, what), Reply::Failed(what)),
     }
 }

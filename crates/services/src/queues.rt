@@ -15,9 +15,9 @@ impl Tables {
     pub fn queues(self, list: &mut [u8]) -> Answer
         ensures { λ r. ⌜ saidWith r (now (list .exit)) ≡ answeredWith self (now (list .entry)) queuesReport ⌝ }
     {
-        match gate(self.all, Caller::Nobody) {
-            Gate::Shut(why) => answering(self.all, Reply::Refused(why)),
-            Gate::Open => answering(self.all, rings::reports::queues(self.all.queue, list)),
+        match gate(self.all, &self.names.bytes, Caller::Nobody) {
+            Gate::Shut(why) => answering(self, Reply::Refused(why)),
+            Gate::Open => answering(self, rings::reports::queues(self.all.queue, list)),
         }
     }
 }

@@ -15,9 +15,9 @@ impl Tables {
     pub fn stuck(self, list: &mut [u8]) -> Answer
         ensures { λ r. ⌜ saidWith r (now (list .exit)) ≡ answeredWith self (now (list .entry)) stuckReport ⌝ }
     {
-        match gate(self.all, Caller::Nobody) {
-            Gate::Shut(why) => answering(self.all, Reply::Refused(why)),
-            Gate::Open => answering(self.all, rings::reports::stuck(self.all.queue, list)),
+        match gate(self.all, &self.names.bytes, Caller::Nobody) {
+            Gate::Shut(why) => answering(self, Reply::Refused(why)),
+            Gate::Open => answering(self, rings::reports::stuck(self.all.queue, list)),
         }
     }
 }

@@ -1,10 +1,10 @@
 -- Sound tables keep their step; what an open gate says of the tables and of the caller.
-use mathlib.Core.Path.{_≡_, sym, ap, _∙_}
-use mathlib.Core.Bool.{true, false}
+use mathlib.Core.Path.{_≡_, sym, ap}
+use mathlib.Core.Bool.{true}
 use mathlib.Core.List.{List}
 use Prim.Native.Nat.{_≤_}
 use native.Mathlib.Omega.{arith}
-use Rattle.lists.specs.Pick.{chain-and, pick-true}
+use Rattle.lists.specs.Pick.{chain-and}
 use Rattle.kinds.specs.Limits.{lowestTask, highestTask}
 use Rattle.kinds.specs.declared.tasks.Task.{Task}
 use Rattle.kinds.specs.declared.ecbs.Ecb.{Ecb}
@@ -16,16 +16,13 @@ use Rattle.rules.specs.Sound.{soundStep}
 use Rattle.laws.specs.Running.{Running, running-parts}
 use Rattle.laws.specs.Chains.{used-pos, used-within}
 use Rattle.laws.specs.Mothers.{fits-length}
-use Rattle.laws.specs.Failing.{Sound}
-use Rattle.laws.specs.Bounds.{sound-bounded}
 use Rattle.laws.specs.Admitted.{open-running, open-used}
 use Rattle.tasks.specs.TaskTables.{taskTableOf}
 use Rattle.queue.specs.Queues.{packedEntries, storedEntries}
-use Rattle.queue.proofs.Views.{packed-kept as queue-kept, live-stored}
-use Rattle.queue.proofs.Passes.{stored-passes as queue-passes}
+use Rattle.queue.proofs.Views.{Pointing, packed-kept as queue-kept, live-stored}
 use Rattle.ecbs.specs.Blocks.{ecbTableOf}
 use Rattle.storage.specs.Stored.{packedAreas, storedAreas}
-use Rattle.storage.specs.Kept.{packed-kept as areas-kept, live-stored as live-areas, stored-passes as areas-pass}
+use Rattle.storage.specs.Kept.{packed-kept as areas-kept, live-stored as live-areas}
 use Rattle.tables.specs.Tables.{stepOf, tablesOf, Packed, soundTables, Admitted, putTasks, putQueue, putEcbs}
 use Rattle.tables.specs.Tables.{putStorage}
 use Rattle.tables.specs.declared.AllTables.{AllTables}
@@ -57,25 +54,16 @@ packed-tables t p = λ i. record {
 pub sound-tables : (t : AllTables) → soundTables t ≡ true → tablesOf (stepOf t) ≡ t
 sound-tables t h = packed-tables t (sound-packed t h)
 
--- whatever step is kept shows again
-pub step-tables : (s : Step) → stepOf (tablesOf s) ≡ s
-step-tables s = λ i. record {
+-- whatever step is kept shows again, where its entries point to their names
+pub step-tables : (s : Step) → Pointing (s .queue) → stepOf (tablesOf s) ≡ s
+step-tables s p = λ i. record {
   over = s .over;
   code = s .code;
   tasks = s .tasks;
-  queue = live-stored (s .queue) i;
+  queue = live-stored (s .queue) p i;
   ecbs = s .ecbs;
   areas = live-areas (s .areas) i;
 }
-
--- a sound step is kept in sound tables
-pub sound-kept : (s : Step) → Sound s → soundTables (tablesOf s) ≡ true
-unfolding soundTables
-sound-kept s h =
-    let r = sound-bounded s h in
-    pick-true (packedEntries (storedEntries (s .queue))) _ false (queue-passes (s .queue) (r .queue) (r .names))
-    ∙ pick-true (packedAreas (storedAreas (s .areas))) _ false (areas-pass (s .areas) (r .areas))
-    ∙ ap soundStep (step-tables s) ∙ h
 
 -- A TABLE PUT IN, kept as the rules keep it in the step
 

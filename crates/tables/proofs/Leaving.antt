@@ -28,7 +28,7 @@ use Rattle.ecbs.specs.Blocks.{ecbTableOf}
 use Rattle.ecbs.specs.declared.EcbTable.{EcbTable}
 use Rattle.queue.specs.Queues.{entriesIn, storedEntries}
 use Rattle.queue.specs.declared.Queue.{Queue}
-use Rattle.queue.proofs.Views.{live-stored}
+use Rattle.queue.proofs.Views.{live-stored, kept-pointing}
 use Rattle.storage.specs.Stored.{areasIn, storedAreas}
 use Rattle.storage.specs.declared.Storage.{Storage}
 use Rattle.tables.specs.Tables.{stepOf}
@@ -52,7 +52,9 @@ module _ (t : AllTables) (n : TaskNumber) (last : Task) (h : Running (stepOf t))
       → g ≡ taskTableOf (wakeBy (entriesIn q) (f .places)) → g ≡ taskTableOf (left .tasks)
   unfolding leftBy
   left-tasks q g b w =
-      w ∙ rw (left-queue q b, a, live-stored) (ap taskTableOf (left-wakes (stepOf t) h (n .0) last d))
+      w ∙ ap (λ (l : List Entry). taskTableOf (wakeBy l (f .places)))
+      (ap entriesIn b ∙ live-stored entries (kept-pointing _ (t .queue)))
+      ∙ rw a (ap taskTableOf (left-wakes (stepOf t) h (n .0) last d))
 
   pub left-ecbs : (e : EcbTable) → e ≡ ecbTableOf (map (waiterStays (f .places)) (t .ecbs .ecbs))
       → e ≡ ecbTableOf (left .ecbs)

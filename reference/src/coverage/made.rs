@@ -35,7 +35,7 @@ impl<'a> Made<'a> {
 
     /// Had the caller an entry for the name?
     pub fn has(&self, asked: &Asked) -> bool {
-        entry_of(self.before.used_entries(), self.caller(), asked).is_some()
+        entry_of(&self.before.queue(), self.caller(), asked).is_some()
     }
 
     /// How many names of the list the caller had no entry for.

@@ -1,8 +1,11 @@
 //! Counts what a script reaches: answers per service and report, rules of sound tables
-//! broken, what the lists of the reports show, what the system's names come to, what HAVE
-//! skips, which addresses GETMAIN gives.
+//! broken, the ways in which names stand wrong, what requests make of the name area, what the lists
+//! of the reports show, what the system's names come to, what HAVE skips, which addresses GETMAIN
+//! gives.
 
+pub mod breaks;
 mod made;
+pub mod packing;
 pub mod readings;
 pub mod sights;
 pub mod skips;
@@ -11,6 +14,7 @@ mod system;
 
 use std::collections::BTreeMap;
 use std::io::{BufRead, Result, Write};
+use std::mem;
 
 use self::made::{Made, Test};
 use self::sights::Sight;
@@ -18,7 +22,7 @@ use crate::reports::Report;
 use crate::request::{Answer, Request, Ret};
 use crate::rings::Waits;
 use crate::runner::{each_line, Outcome, Runner};
-use crate::sound::RULES;
+use crate::sound::{broken, rules};
 use crate::tables::{Step, Task, ENDED, FREE, LIVE};
 
 /// Each service and report with the answers that it can give.
@@ -58,6 +62,8 @@ fn of_requests() -> Vec<(Sight, Test)> {
 /// All that is looked for beside answers and rules.
 fn all_sights() -> Vec<Sight> {
     let mut all = sights::all();
+    all.extend(breaks::all());
+    all.extend(packing::all());
     all.extend(of_requests().iter().map(|(sight, _)| *sight));
     all
 }
@@ -94,6 +100,8 @@ struct Counts {
     most: BTreeMap<&'static str, u64>,
     events: BTreeMap<String, u64>,
     sights: BTreeMap<Sight, u64>,
+    /// What the last line made of the name area.
+    packed: Vec<Sight>,
 }
 
 impl Counts {
@@ -117,13 +125,13 @@ impl Counts {
     }
 
     fn unsound(&mut self, runner: &Runner) {
-        let broken: Vec<&'static str> =
-            RULES.iter().filter(|(_, rule)| !rule(&runner.step)).map(|(name, _)| *name).collect();
+        let broken = broken(&runner.step);
         for name in broken.iter() {
             let counts = self.rules.entry(name).or_insert((0, 0));
             counts.0 += 1;
             counts.1 += (broken.len() == 1) as u64;
         }
+        self.see(breaks::seen(&runner.step, &broken));
     }
 
     fn state(&mut self, runner: &Runner) {
@@ -133,7 +141,7 @@ impl Counts {
         self.high("entries", step.entry_count as u64);
         self.high("areas", step.area_count as u64);
         self.high("posts needed", step.tasks.iter().map(|t| t.need as u64).max().unwrap_or(0));
-        let on_rings = Waits::among(step.used_entries()).on_rings();
+        let on_rings = Waits::among(&step.queue()).on_rings();
         let rings = on_rings.iter().filter(|mark| **mark).count();
         self.high("tasks on rings", rings as u64);
         if rings > 0 {
@@ -143,12 +151,19 @@ impl Counts {
 
     fn take(&mut self, runner: &mut Runner, line: &[u8]) {
         let before = runner.step.clone();
+        let packed = mem::take(&mut self.packed);
         match runner.take(line) {
             Outcome::Nothing => self.one("empty lines and comments"),
             Outcome::Unreadable => self.one("unreadable lines"),
             Outcome::NotHeld => self.one("pokes not held"),
-            Outcome::Poked => self.one("pokes"),
-            Outcome::Dumped => self.one("dumps"),
+            Outcome::Poked => {
+                self.one("pokes");
+                self.see(breaks::seen_in_poke(&before, &runner.step));
+            }
+            Outcome::Dumped => {
+                self.one("dumps");
+                self.see(packing::seen_in_dump(&packed));
+            }
             Outcome::Started(answer) => {
                 self.one("requests");
                 self.answer("fresh", answer);
@@ -163,6 +178,9 @@ impl Counts {
                 } else {
                     self.state(runner);
                     self.change(&before, &runner.step, &request, answer);
+                    let word = word(&request);
+                    self.packed = packing::seen(word, &request, &before, &runner.step, answer);
+                    self.see(self.packed.clone());
                 }
             }
         }
@@ -236,7 +254,7 @@ impl Counts {
             }
             writeln!(output)?;
         }
-        for (name, _) in RULES.iter() {
+        for name in rules() {
             let (all, alone) = self.rules.get(name).cloned().unwrap_or((0, 0));
             writeln!(output, "rule {:<15} broken {} alone {}", name, all, alone)?;
         }
@@ -268,7 +286,7 @@ impl Counts {
                 writeln!(output, "strange: {} answered {}", word, number)?;
             }
         }
-        for (name, _) in RULES.iter().filter(|(name, _)| !self.rules.contains_key(name)) {
+        for name in rules().iter().filter(|name| !self.rules.contains_key(*name)) {
             writeln!(output, "gap: rule {} never broken", name)?;
         }
         for sight in all_sights().iter().filter(|sight| !self.sights.contains_key(*sight)) {

@@ -7,7 +7,7 @@ use crate::reports::stuck::{self, Stuck};
 use crate::reports::Report;
 use crate::rings::Waits;
 use crate::runner::Runner;
-use crate::tables::Entry;
+use crate::tables::Named;
 
 /// The word of a report or request, and what it shows.
 pub type Sight = (&'static str, &'static str);
@@ -22,7 +22,7 @@ const ROOMS: [(&str, fn(usize, usize) -> bool); 5] = [
 ];
 
 /// Of the first report's list.
-const STUCK: [(&str, fn(&[Entry], &[Stuck]) -> bool); 12] = [
+const STUCK: [(&str, fn(&[Named], &[Stuck]) -> bool); 12] = [
     ("listed a ring", |_, items| !items.is_empty()),
     ("listed a ring with task 1", |_, items| items.iter().any(|item| item.task == 1)),
     ("listed a ring with task 32", |_, items| items.iter().any(|item| item.task == TASKS)),
@@ -38,7 +38,7 @@ const STUCK: [(&str, fn(&[Entry], &[Stuck]) -> bool); 12] = [
 ];
 
 /// Of the second report's list.
-const QUEUES: [(&str, fn(&[Entry], &[Queued]) -> bool); 5] = [
+const QUEUES: [(&str, fn(&[Named], &[Queued]) -> bool); 5] = [
     ("listed 128 entries", |_, items| items.len() == ENTRIES),
     ("listed several owners of a name", several_owners),
     ("listed an owner that waits elsewhere", owner_waits_elsewhere),
@@ -59,7 +59,7 @@ pub fn all() -> Vec<Sight> {
 
 /// What the report just made shows; the step is sound and runs.
 pub fn seen(runner: &Runner, report: Report) -> Vec<Sight> {
-    let entries = runner.step.used_entries();
+    let entries = &runner.step.queue()[..];
     match report {
         Report::Stuck => {
             seen_in("stuck", entries, &stuck::list(entries), runner.stuck.len(), &STUCK)
@@ -72,10 +72,10 @@ pub fn seen(runner: &Runner, report: Report) -> Vec<Sight> {
 
 fn seen_in<T>(
     word: &'static str,
-    entries: &[Entry],
+    entries: &[Named],
     items: &[T],
     room: usize,
-    shown: &[(&'static str, fn(&[Entry], &[T]) -> bool)],
+    shown: &[(&'static str, fn(&[Named], &[T]) -> bool)],
 ) -> Vec<Sight> {
     let needed = items.len();
     let fit = ROOMS.iter().filter(|(_, test)| test(room, needed)).map(|(what, _)| *what);
@@ -88,32 +88,32 @@ fn item_of(items: &[Stuck], task: u32) -> Option<&Stuck> {
 }
 
 /// The place of the entry that an item names.
-fn place_of(entries: &[Entry], item: &Stuck) -> usize {
-    let named = |e: &Entry| e.task == item.task && e.name == item.name;
+fn place_of(entries: &[Named], item: &Stuck) -> usize {
+    let named = |e: &Named| e.task == item.task && e.name == item.name;
     entries.iter().position(named).unwrap_or(0)
 }
 
-fn two_name_each_other(_: &[Entry], items: &[Stuck]) -> bool {
+fn two_name_each_other(_: &[Named], items: &[Stuck]) -> bool {
     let back = |item: &Stuck| item_of(items, item.partner).map(|other| other.partner);
     items.iter().any(|item| back(item) == Some(item.task))
 }
 
-fn partner_names_another(_: &[Entry], items: &[Stuck]) -> bool {
+fn partner_names_another(_: &[Named], items: &[Stuck]) -> bool {
     let back = |item: &Stuck| item_of(items, item.partner).map(|other| other.partner);
     items.iter().any(|item| back(item) != Some(item.task))
 }
 
-fn two_without_a_common_ring(entries: &[Entry], items: &[Stuck]) -> bool {
+fn two_without_a_common_ring(entries: &[Named], items: &[Stuck]) -> bool {
     let waits = Waits::among(entries);
     items.iter().any(|item| !waits.share_a_ring(items[0].task, item.task))
 }
 
-fn partner_on_another_ring(entries: &[Entry], items: &[Stuck]) -> bool {
+fn partner_on_another_ring(entries: &[Named], items: &[Stuck]) -> bool {
     let waits = Waits::among(entries);
     items.iter().any(|item| !waits.share_a_ring(item.task, item.partner))
 }
 
-fn later_entry_named(entries: &[Entry], items: &[Stuck]) -> bool {
+fn later_entry_named(entries: &[Named], items: &[Stuck]) -> bool {
     let lacks = |place: usize| !has_control(entries, place);
     items.iter().any(|item| {
         (0..place_of(entries, item)).any(|place| entries[place].task == item.task && lacks(place))
@@ -121,9 +121,9 @@ fn later_entry_named(entries: &[Entry], items: &[Stuck]) -> bool {
 }
 
 /// Is an entry ahead of the partner's, for the item's name, of this sort?
-fn passed_over<F>(entries: &[Entry], items: &[Stuck], sort: F) -> bool
+fn passed_over<F>(entries: &[Named], items: &[Stuck], sort: F) -> bool
 where
-    F: Fn(&Entry, &Entry) -> bool,
+    F: Fn(&Named, &Named) -> bool,
 {
     items.iter().any(|item| {
         let entry = &entries[place_of(entries, item)];
@@ -133,15 +133,15 @@ where
     })
 }
 
-fn other_passed_over(entries: &[Entry], items: &[Stuck]) -> bool {
+fn other_passed_over(entries: &[Named], items: &[Stuck]) -> bool {
     passed_over(entries, items, |e, entry| item_of(items, e.task).is_none() && clash(e, entry))
 }
 
-fn shared_passed_over(entries: &[Entry], items: &[Stuck]) -> bool {
+fn shared_passed_over(entries: &[Named], items: &[Stuck]) -> bool {
     passed_over(entries, items, |e, entry| item_of(items, e.task).is_some() && !clash(e, entry))
 }
 
-fn waiting_left_out(entries: &[Entry], items: &[Stuck]) -> bool {
+fn waiting_left_out(entries: &[Named], items: &[Stuck]) -> bool {
     let waits = Waits::among(entries);
     let waits_for_stuck = |task: u32| {
         let reached = waits.reached_from(task);
@@ -150,17 +150,17 @@ fn waiting_left_out(entries: &[Entry], items: &[Stuck]) -> bool {
     (1..=TASKS).any(|task| item_of(items, task).is_none() && waits_for_stuck(task))
 }
 
-fn several_owners(_: &[Entry], items: &[Queued]) -> bool {
+fn several_owners(_: &[Named], items: &[Queued]) -> bool {
     items.windows(2).any(|pair| pair[0].name == pair[1].name && pair[1].owns)
 }
 
-fn owner_waits_elsewhere(_: &[Entry], items: &[Queued]) -> bool {
+fn owner_waits_elsewhere(_: &[Named], items: &[Queued]) -> bool {
     let waits = |task: u32| items.iter().any(|item| item.task == task && !item.owns);
     items.iter().any(|item| item.owns && waits(item.task))
 }
 
-fn shared_behind_shared(entries: &[Entry], _: &[Queued]) -> bool {
-    let shared_owner = |e: &Entry| {
+fn shared_behind_shared(entries: &[Named], _: &[Queued]) -> bool {
+    let shared_owner = |e: &Named| {
         entries.iter().position(|first| first.name == e.name).map(|i| entries[i].excl == 0)
     };
     (0..entries.len()).any(|place| {
@@ -169,6 +169,6 @@ fn shared_behind_shared(entries: &[Entry], _: &[Queued]) -> bool {
     })
 }
 
-fn entries_brought_together(entries: &[Entry], items: &[Queued]) -> bool {
+fn entries_brought_together(entries: &[Named], items: &[Queued]) -> bool {
     entries.iter().zip(items).any(|(entry, item)| entry.name != item.name)
 }

@@ -7,7 +7,7 @@ use crate::control::has_control;
 use crate::names::{stands_twice, Asked};
 use crate::numbers::LIST;
 use crate::rings::Waits;
-use crate::tables::Entry;
+use crate::tables::Named;
 
 /// Some skipped: which, and what becomes of the caller.
 const SOME: [(&str, Test); 10] = [
@@ -127,30 +127,30 @@ impl<'a> Made<'a> {
     }
 
     fn is_on_ring(&self) -> bool {
-        Waits::among(self.after.used_entries()).is_on_ring(self.caller())
+        Waits::among(&self.after.queue()).is_on_ring(self.caller())
     }
 
     /// Does the number of entries that there were for one of the fresh names pass?
     fn queues<F: Fn(usize) -> bool>(&self, test: F) -> bool {
-        let entries = self.before.used_entries();
+        let entries = self.before.queue();
         let queued = |asked: &Asked| entries.iter().filter(|e| e.name == asked.name).count();
         self.names.iter().any(|asked| !self.has(asked) && test(queued(asked)))
     }
 
     /// Was an entry of the caller's skipped that stands as it stood, and does it pass beside what
     /// was asked for?
-    fn skips<F: Fn(&Entry, &Asked) -> bool>(&self, test: F) -> bool {
-        let stood = self.before.used_entries().iter().zip(self.after.used_entries());
+    fn skips<F: Fn(&Named, &Asked) -> bool>(&self, test: F) -> bool {
+        let stood = self.before.queue().into_iter().zip(self.after.queue());
         let mut kept = stood.filter(|(b, a)| b == a && b.task == self.caller());
-        let passes = |e: &Entry| self.names.iter().any(|a| a.name == e.name && test(e, a));
-        self.answer.number == 4 && kept.any(|(entry, _)| passes(entry))
+        let passes = |e: &Named| self.names.iter().any(|a| a.name == e.name && test(e, a));
+        self.answer.number == 4 && kept.any(|(entry, _)| passes(&entry))
     }
 
     /// Had another task an entry for this name, with control or without?
     fn another(&self, asked: &Asked, owns: bool) -> bool {
-        let entries = self.before.used_entries();
+        let entries = self.before.queue();
         let is_such = |i: usize| entries[i].task != self.caller() && entries[i].name == asked.name;
-        (0..entries.len()).any(|i| is_such(i) && has_control(entries, i) == owns)
+        (0..entries.len()).any(|i| is_such(i) && has_control(&entries, i) == owns)
     }
 
     /// Does a name stand twice that the caller has?

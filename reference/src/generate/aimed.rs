@@ -3,7 +3,6 @@
 use std::io::Result;
 
 use super::Generator;
-use crate::numbers::MINOR;
 use crate::tables::{Area, Ecb};
 
 impl<'a> Generator<'a> {
@@ -85,7 +84,7 @@ impl<'a> Generator<'a> {
         Some((format!("task {} need", n), need.to_string()))
     }
 
-    /// A byte past the minor name, a length at its edge, a mode, a task.
+    /// A mode, a task.
     fn aim_at_entry(&mut self) -> Option<(String, String)> {
         let count = self.runner.step.entry_count as u32;
         if count == 0 {
@@ -93,18 +92,12 @@ impl<'a> Generator<'a> {
         }
         let i = self.random.below(count) as usize;
         let entry = self.runner.step.entries[i];
-        let length = entry.name.length as usize;
-        Some(match self.random.below(6) {
-            0 => (format!("entry {} length", i), self.random.pick(&[0, 1, 44, 45]).to_string()),
-            1 => (format!("entry {} length", i), (length + 1).to_string()),
-            2 => (format!("entry {} excl", i), (entry.excl ^ 1).to_string()),
-            3 => (format!("entry {} task", i), self.random.between(1, 32).to_string()),
-            _ => {
-                let mut minor = entry.name.minor;
-                minor[length.min(MINOR - 1)] ^= 1;
-                let text: String = minor.iter().map(|byte| format!("{:02x}", byte)).collect();
-                (format!("entry {} minor", i), text)
-            }
+        Some(if self.random.one_in(2) {
+            (format!("entry {} excl", i), (entry.excl ^ 1).to_string())
+        } else {
+            let strange = self.random.pick(&[0, 33, 255]);
+            let task = if self.random.one_in(3) { strange } else { self.random.between(1, 32) };
+            (format!("entry {} task", i), task.to_string())
         })
     }
 
@@ -115,7 +108,8 @@ impl<'a> Generator<'a> {
             return None;
         }
         let i = self.random.below(count);
-        Some((format!("entry {} major", i), self.system_or_near_major()))
+        let offset = self.runner.step.entries[i as usize].offset;
+        Some((format!("name {}", offset), self.system_or_near_major()))
     }
 
     /// Priorities at their edges, mothers, states, waits.

@@ -3,15 +3,15 @@
 use std::io::Result;
 
 use super::habits::SORTS;
+use super::lines::hex;
 use super::Generator;
-use crate::numbers::{AREAS, ENTRIES};
+use crate::numbers::{AREAS, ENTRIES, MINOR, NAMES};
 use crate::poke::{AREA_FIELDS, ECB_FIELDS, ENTRY_FIELDS, TASK_FIELDS};
-use crate::printer::hex;
 use crate::runner::Outcome;
 use crate::sound::is_sound;
 use crate::tables::Step;
 
-const VALUES: [u32; 30] = [
+const VALUES: [u32; 34] = [
     0,
     1,
     2,
@@ -34,6 +34,10 @@ const VALUES: [u32; 30] = [
     256,
     4_095,
     4_096,
+    16_383,
+    16_384,
+    65_535,
+    65_536,
     131_064,
     131_071,
     131_072,
@@ -50,10 +54,11 @@ impl<'a> Generator<'a> {
         let before = self.runner.step.clone();
         let mut places = Vec::new();
         for _ in 0..self.random.pick(&[1, 1, 1, 1, 2, 3]) {
-            let place = match self.random.below(10) {
+            let place = match self.random.below(14) {
                 0 => self.many_pokes()?,
                 1..=5 => self.aimed_poke()?,
-                _ => self.one_poke()?,
+                6..=9 => self.one_poke()?,
+                _ => self.break_names()?,
             };
             places.extend(place);
         }
@@ -83,12 +88,13 @@ impl<'a> Generator<'a> {
         self.line_of(sort)
     }
 
-    /// Poke the fields back, last one first, as they stood before.
+    /// Poke the fields back, last one first, as they stood before, and the name area with them.
     fn mend(&mut self, before: &Step, places: &[String]) -> Result<()> {
         for place in places.iter().rev() {
             let line = format!("poke {} {}", place, field_text(before, place));
             self.say(&line)?;
         }
+        self.mend_names(&before.names)?;
         if is_sound(&self.runner.step) {
             self.request()
         } else {
@@ -96,12 +102,13 @@ impl<'a> Generator<'a> {
         }
     }
 
+    /// Poke a value; what there is to mend comes back.  The name area is mended as a whole.
     pub fn poke(&mut self, place: String, value: &str) -> Result<Vec<String>> {
         let held = match self.say(&format!("poke {} {}", place, value))? {
             Outcome::Poked => true,
             _ => false,
         };
-        Ok(if held { vec![place] } else { Vec::new() })
+        Ok(if held && !place.starts_with("name ") { vec![place] } else { Vec::new() })
     }
 
     fn value_near(&mut self, now: &str) -> String {
@@ -134,7 +141,7 @@ impl<'a> Generator<'a> {
                 let i = self.random.below(entries + 2).min(ENTRIES as u32 - 1);
                 format!("entry {} {}", i, self.random.pick(&ENTRY_FIELDS))
             }
-            6 => return self.poke_name(),
+            6 => return self.poke_gone(),
             7..=9 => {
                 let waited = self.random.one_in(2);
                 let complete = (0..64).find(|n| self.runner.step.ecbs[*n].complete != 0);
@@ -154,24 +161,21 @@ impl<'a> Generator<'a> {
         self.poke(place, &value)
     }
 
-    /// A part of an entry's name: like another's, or with a byte changed.
-    fn poke_name(&mut self) -> Result<Vec<String>> {
+    /// A field that entries had before there was a name area: it can't be held.
+    fn poke_gone(&mut self) -> Result<Vec<String>> {
         let count = self.runner.step.entry_count as u32;
         let i = self.random.below(count + 1).min(ENTRIES as u32 - 1);
-        let other = self.random.below(count.max(1)) as usize;
-        let field = self.random.pick(&["major", "minor", "minor"]);
-        let from = if self.random.one_in(2) { other } else { i as usize };
-        let mut text =
-            field_text(&self.runner.step, &format!("entry {} {}", from, field)).into_bytes();
-        if self.random.one_in(2) {
-            let at = self.random.below(text.len() as u32) as usize;
-            text[at] = self.random.pick(b"0123456789abcdefABCDEF");
-        }
-        let text = String::from_utf8(text).unwrap_or_default();
-        self.poke(format!("entry {} {}", i, field), &text)
+        let value = match self.random.below(3) {
+            0 => format!("length {}", self.random.pick(&VALUES)),
+            1 => format!("major {}", self.system_or_near_major()),
+            _ => format!("minor {}", hex(&[self.random.below(256) as u8; MINOR])),
+        };
+        self.say(&format!("poke entry {} {}", i, value))?;
+        Ok(Vec::new())
     }
 
-    /// Of a step that is over: another code, or empty tables of a step that runs.
+    /// Of a step that is over: another code, or empty tables of a step that runs, or a byte in
+    /// the name area.
     pub fn poke_step(&mut self) -> Result<()> {
         let code = self.random.pick(&[0u32, 1, 201, 4_095, 4_096, 4_294_967_295]);
         if self.random.percent(70) {
@@ -179,6 +183,11 @@ impl<'a> Generator<'a> {
         }
         if self.random.percent(40) {
             self.say("poke step over 0")?;
+        }
+        if self.random.percent(40) {
+            let at = self.random.pick(&[0, 0, 1, 8, 9, 6_783, NAMES - 1]);
+            let byte = self.random.between(1, 255);
+            self.say(&format!("poke name {} {:02x}", at, byte))?;
         }
         self.say("dispatch")?;
         let line = self.line_of(8);
@@ -206,7 +215,7 @@ impl<'a> Generator<'a> {
         let from = self.random.below(count as u32) as usize;
         let shift = self.random.below(10);
         let mut places = Vec::new();
-        for field in ["major", "minor", "length", "excl", "task"].iter() {
+        for field in ["name", "excl", "task"].iter() {
             let mut value = field_text(&self.runner.step, &format!("entry {} {}", from, field));
             if *field == "task" && shift < 3 {
                 value = self.random.between(1, 32).to_string();
@@ -223,12 +232,13 @@ impl<'a> Generator<'a> {
         if count == ENTRIES {
             return Ok(Vec::new());
         }
-        let major = self.system_or_near_major();
+        let offset = self.end_of_names();
+        let bytes = format!("{}01{:02x}", self.system_or_near_major(), self.random.below(4));
         let excl = self.random.below(2).to_string();
         let caller = self.caller().to_string();
-        let mut places = Vec::new();
+        let mut places = self.poke(format!("name {}", offset), &bytes)?;
         for (field, value) in
-            [("major", major.as_str()), ("length", "1"), ("excl", &excl), ("task", &caller)].iter()
+            [("name", offset.to_string()), ("excl", excl), ("task", caller)].iter()
         {
             places.extend(self.poke(format!("entry {} {}", count, field), value)?);
         }
@@ -325,11 +335,9 @@ fn field_text(step: &Step, place: &str) -> String {
     let value = match (words[0], *words.last().unwrap_or(&"")) {
         ("step", "over") => step.over,
         ("step", _) => step.code,
-        ("entry", "major") => return hex_text(&step.entries[index].name.major),
-        ("entry", "minor") => return hex_text(&step.entries[index].name.minor),
         ("entry", "task") => step.entries[index].task,
         ("entry", "excl") => step.entries[index].excl,
-        ("entry", _) => step.entries[index].name.length,
+        ("entry", _) => step.entries[index].offset,
         ("task", field) => task_value(step, index, field),
         ("ecb", "wait") => step.ecbs[index].wait,
         ("ecb", "complete") => step.ecbs[index].complete,
@@ -355,10 +363,4 @@ fn task_value(step: &Step, index: usize, field: &str) -> u32 {
         "rwait" => task.rwait,
         _ => task.need,
     }
-}
-
-fn hex_text(bytes: &[u8]) -> String {
-    let mut out = Vec::new();
-    hex(&mut out, bytes);
-    String::from_utf8(out).unwrap_or_default()
 }

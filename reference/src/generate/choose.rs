@@ -77,12 +77,12 @@ impl<'a> Generator<'a> {
     }
 
     pub fn held_by(&self, task: u32) -> Vec<Name> {
-        let entries = self.runner.step.used_entries();
+        let entries = self.runner.step.queue();
         entries.iter().filter(|e| e.task == task).map(|e| e.name).collect()
     }
 
     pub fn holds(&self, task: u32, name: Name) -> bool {
-        entry_of(self.runner.step.used_entries(), task, &Asked { exclusive: false, name }).is_some()
+        entry_of(&self.runner.step.queue(), task, &Asked { exclusive: false, name }).is_some()
     }
 
     pub fn holds_any(&self, task: u32) -> bool {

@@ -3,7 +3,9 @@
 use std::io::Result;
 
 use super::habits::SORTS;
+use super::lines::hex;
 use super::Generator;
+use crate::numbers::NAMES;
 
 const EDGES: [u32; 28] = [
     0,
@@ -37,7 +39,7 @@ const EDGES: [u32; 28] = [
 ];
 
 /// Lines that are near a readable one.
-const UNREADABLE: [&str; 27] = [
+const UNREADABLE: [&str; 39] = [
     "poke",
     "poke step over",
     "poke task 0 state 0",
@@ -45,6 +47,18 @@ const UNREADABLE: [&str; 27] = [
     "poke ecb 64 wait 0",
     "poke area 128 owner 0",
     "poke entry 0 major 00",
+    "poke entry 0 minor 00",
+    "poke entry 0 length x",
+    "poke entry 0 name",
+    "poke entry 0 name -1",
+    "poke entry 128 name 0",
+    "poke name 0",
+    "poke name 0 ",
+    "poke name 0 0",
+    "poke name 0 0g",
+    "poke name 16384 00",
+    "poke name 16383 0000",
+    "poke names 0 00",
     "fresh 1",
     "dump x",
     "fresh 00000000001 1",
@@ -196,11 +210,25 @@ impl<'a> Generator<'a> {
             4 => return self.raw_bytes(),
             5 => self.many_names(),
             6 => self.wide_number(&line),
-            7 => self.random.pick(&UNREADABLE).to_string(),
-            8..=14 => self.dressed(&line),
+            7 | 8 => self.random.pick(&UNREADABLE).to_string(),
+            9 => self.same_bytes(),
+            10..=15 => self.dressed(&line),
             _ => self.garbled(&line),
         };
         self.say(&line).map(|_| ())
+    }
+
+    /// A poke of the name area that changes nothing, at the edges of what is readable, in small
+    /// or capital letters.
+    fn same_bytes(&mut self) -> String {
+        let count = self.random.pick(&[1, 2, 64, 299, 300, 300, 301]);
+        let at = self.random.pick(&[0, 0, 1, 9, NAMES - count, NAMES - count, NAMES - count + 1]);
+        let width = self.random.between(1, 11) as usize;
+        let mut bytes = self.runner.step.names[at..NAMES.min(at + count)].to_vec();
+        bytes.resize(count, 0);
+        let digits = hex(&bytes);
+        let digits = if self.random.one_in(2) { digits.to_uppercase() } else { digits };
+        format!("poke name {:0width$} {}", at, digits, width = width)
     }
 
     fn raw_bytes(&mut self) -> Result<()> {

@@ -4,15 +4,14 @@ use std::io::Result;
 
 use super::Generator;
 use crate::names::Name;
-use crate::numbers::{ECBS, MINOR};
+use crate::numbers::ECBS;
 
-fn hex(bytes: &[u8]) -> String {
+pub fn hex(bytes: &[u8]) -> String {
     bytes.iter().map(|byte| format!("{:02x}", byte)).collect()
 }
 
 pub fn text_of(name: &Name) -> String {
-    let used = MINOR.min(name.length as usize);
-    format!("{}.{}", hex(&name.major), hex(&name.minor[..used]))
+    format!("{}.{}", hex(&name.major), hex(name.minor_bytes()))
 }
 
 impl<'a> Generator<'a> {

@@ -8,8 +8,10 @@ mod choose;
 mod garble;
 mod habits;
 mod lines;
+mod names;
 mod plays;
 mod reports;
+mod shuffle;
 mod skips;
 mod storm;
 mod system;
@@ -34,6 +36,8 @@ pub struct Generator<'a> {
     asked: u64,
     /// Requests since the last dump; a report changes nothing.
     since_dump: u32,
+    /// An entry has gone since the last dump, so that names may have moved.
+    gone: bool,
     habits: Habits,
 }
 
@@ -47,7 +51,8 @@ pub fn generate(seed: u64, kind: &str, count: u64, output: &mut dyn Write) -> Re
     random.next();
     let habits = habits_of(kind);
     let runner = Runner::new();
-    let mut generator = Generator { random, runner, output, asked: 0, since_dump: 0, habits };
+    let mut generator =
+        Generator { random, runner, output, asked: 0, since_dump: 0, gone: false, habits };
     generator.say(&format!("# {} {} {}", kind, seed, count))?;
     while generator.asked < count {
         generator.turn(kind)?;
@@ -67,14 +72,20 @@ impl<'a> Generator<'a> {
     fn say_bytes(&mut self, line: &[u8]) -> Result<Outcome> {
         self.output.write_all(line)?;
         self.output.write_all(b"\n")?;
+        let entries = self.runner.step.entry_count;
         let outcome = self.runner.take(line);
         match outcome {
             Outcome::Served(..) | Outcome::Started(..) => {
                 self.asked += 1;
                 self.since_dump += 1;
+                self.gone |=
+                    0 < self.runner.step.entry_count && self.runner.step.entry_count < entries;
             }
             Outcome::Reported(..) => self.asked += 1,
-            Outcome::Dumped => self.since_dump = 0,
+            Outcome::Dumped => {
+                self.since_dump = 0;
+                self.gone = false;
+            }
             _ => {}
         }
         Ok(outcome)
@@ -82,7 +93,7 @@ impl<'a> Generator<'a> {
 
     /// Some lines of a kind.
     fn turn(&mut self, kind: &str) -> Result<()> {
-        if self.since_dump > 40 {
+        if self.since_dump > 40 || self.gone && self.random.one_in(10) {
             self.say("dump")?;
         }
         if kind == "reports" {
@@ -98,6 +109,7 @@ impl<'a> Generator<'a> {
             "broken" if self.random.one_in(4) => self.break_and_mend(),
             "text" if self.random.one_in(3) => self.text_line(),
             "rings" if self.random.one_in(10) => self.ring(),
+            "queue" if self.random.one_in(60) => self.shuffle(),
             "habit" => self.habit(),
             "full" if self.random.one_in(60) => self.fill(),
             "tasks" if self.random.one_in(40) => self.deep_tree(),
@@ -107,12 +119,13 @@ impl<'a> Generator<'a> {
     }
 
     fn any_play(&mut self) -> Result<()> {
-        match self.random.below(6) {
+        match self.random.below(8) {
             0 => self.break_and_mend(),
             1 => self.text_line(),
             2 => self.ring(),
             3 => self.deep_tree(),
             4 => self.fill(),
+            5 | 6 => self.shuffle(),
             _ => self.fresh(),
         }
     }

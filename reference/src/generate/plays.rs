@@ -47,7 +47,7 @@ impl<'a> Generator<'a> {
             child = at;
             at = self.runner.step.tasks[at as usize].mother;
         }
-        let on_ring = Waits::among(self.runner.step.used_entries()).is_on_ring(task);
+        let on_ring = Waits::among(&self.runner.step.queue()).is_on_ring(task);
         if on_ring && at != 0 && self.is_ready(at) {
             self.say(&format!("detach {} {}", at, child))?;
             self.say("dispatch")?;

@@ -13,7 +13,7 @@ impl<'a> Generator<'a> {
     }
 
     pub fn stuck_line(&mut self) -> String {
-        let marks = Waits::among(self.runner.step.used_entries()).on_rings();
+        let marks = Waits::among(&self.runner.step.queue()).on_rings();
         let needed = marks.iter().filter(|mark| **mark).count() as u32;
         format!("stuck {}", self.room_for(needed))
     }

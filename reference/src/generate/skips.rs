@@ -52,7 +52,7 @@ impl<'a> Generator<'a> {
     /// A name that neither the caller nor the list has: with this chance in a hundred one that
     /// another task has, else one that nobody has asked for.
     fn fresh_name(&mut self, caller: u32, beside: &[Name], taken: u32) -> Name {
-        let names: Vec<Name> = self.runner.step.used_entries().iter().map(|e| e.name).collect();
+        let names: Vec<Name> = self.runner.step.queue().iter().map(|e| e.name).collect();
         if self.random.percent(taken) {
             let is_fresh = |name: &&Name| !self.holds(caller, **name) && !beside.contains(name);
             let others: Vec<Name> = names.iter().filter(is_fresh).cloned().collect();

@@ -109,7 +109,8 @@ impl<'a> Generator<'a> {
     }
 
     fn unused_names(&self, task: u32, count: usize) -> Vec<Name> {
-        let used = |name: &Name| self.runner.step.used_entries().iter().any(|e| e.name == *name);
+        let queue = self.runner.step.queue();
+        let used = |name: &Name| queue.iter().any(|e| e.name == *name);
         (0..)
             .map(|number| storm_name(task, number))
             .filter(|name| !used(name))
@@ -146,7 +147,7 @@ impl<'a> Generator<'a> {
 
     /// Open a ring, or close one where tasks are ready for it.
     fn change_rings(&mut self) -> Result<()> {
-        let marks = Waits::among(self.runner.step.used_entries()).on_rings();
+        let marks = Waits::among(&self.runner.step.queue()).on_rings();
         let stuck: Vec<u32> = (2..=TASKS).filter(|task| marks[*task as usize]).collect();
         let ready: Vec<u32> = (2..=TASKS).filter(|task| self.is_ready(*task)).collect();
         if ready.len() > 1 && (stuck.is_empty() || self.random.one_in(2)) {

@@ -37,7 +37,7 @@ const NEAR_MAJORS: [u64; 14] = [
 impl<'a> Generator<'a> {
     /// The names of the system that stand in the tables, which only pokes bring there.
     fn system_names_held(&self) -> Vec<Name> {
-        let names = self.runner.step.used_entries().iter().map(|e| e.name);
+        let names = self.runner.step.queue().into_iter().map(|e| e.name);
         names.filter(|name| name.is_the_systems()).collect()
     }
 

@@ -6,7 +6,7 @@ pub mod stuck;
 
 use crate::admission::tables_refusal;
 use crate::request::Answer;
-use crate::tables::{Entry, Step};
+use crate::tables::{Named, Step};
 
 #[derive(Clone, Copy, PartialEq, Eq, Debug)]
 pub enum Report {
@@ -20,12 +20,12 @@ pub enum Report {
 pub fn report<T, L>(step: &Step, list: L, area: &mut [T]) -> Answer
 where
     T: Copy,
-    L: Fn(&[Entry]) -> Vec<T>,
+    L: Fn(&[Named]) -> Vec<T>,
 {
     if let Some(number) = tables_refusal(step) {
         return Answer::refused(number);
     }
-    let items = list(step.used_entries());
+    let items = list(&step.queue());
     if area.len() < items.len() {
         return Answer::refused(104);
     }

@@ -2,7 +2,7 @@
 
 use crate::control::has_control;
 use crate::names::Name;
-use crate::tables::Entry;
+use crate::tables::Named;
 
 /// An entry of a name's queue: of an owner, or of a waiter.
 #[derive(Clone, Copy, PartialEq, Eq, Debug)]
@@ -17,7 +17,7 @@ impl Queued {
 }
 
 /// "for each name in the order of its first entry, its owners and waiters in queue order"
-pub fn list(entries: &[Entry]) -> Vec<Queued> {
+pub fn list(entries: &[Named]) -> Vec<Queued> {
     let mut items = Vec::new();
     for (first, entry) in entries.iter().enumerate() {
         let name = entry.name;

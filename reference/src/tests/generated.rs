@@ -1,6 +1,6 @@
 //! Generated scripts: what must hold at every request.
 
-use crate::coverage::{self, readings, sights::Sight, skips, storage};
+use crate::coverage::{self, breaks, packing, readings, sights::Sight, skips, storage};
 use crate::generate::{generate, KINDS};
 use crate::names::Asked;
 use crate::numbers::{AREAS, ENTRIES, TASKS};
@@ -72,7 +72,7 @@ fn rings() {
     let on_rings = |kind: &str| {
         let mut found = 0;
         each_request(&script(1, kind, 1500), |_, after, _| {
-            let on_rings = Waits::among(after.step.used_entries()).on_rings();
+            let on_rings = Waits::among(&after.step.queue()).on_rings();
             found += on_rings.iter().filter(|mark| **mark).count();
         });
         found
@@ -106,7 +106,8 @@ fn reports() {
 
 /// What NONE answers, and leaves, with the names that the caller has no entry for.
 fn rest_by_none(before: &Step, caller: u32, names: &[Asked]) -> (u32, Step) {
-    let held = |a: &Asked| before.entries.iter().any(|e| e.task == caller && e.name == a.name);
+    let queue = before.queue();
+    let held = |a: &Asked| queue.iter().any(|e| e.task == caller && e.name == a.name);
     let rest: Vec<Asked> = names.iter().filter(|asked| !held(asked)).cloned().collect();
     let mut after = before.clone();
     if rest.is_empty() {
@@ -171,6 +172,19 @@ fn have_skips_names() {
     assert_eq!(missing(&all, &skips), 0);
     let few = b"fresh 9 9\nenq 1 have 1 S:0000000000000000.00\nenq 1 have 1 S:0000000000000000.01";
     assert_eq!(missing(few, &skips), skips.len());
+}
+
+/// A few scripts break names in every way and make every change of the name area.  One request
+/// for a name makes one.
+#[test]
+fn names_break_and_move() {
+    let ways = breaks::all();
+    assert_eq!(missing(&scripts(&[("broken", 9000), ("mixed", 4000)]), &ways), 0);
+    let changes = packing::all();
+    assert_eq!(missing(&scripts(&[("queue", 6000), ("mixed", 9000)]), &changes), 0);
+    let few = b"fresh 9 9\nenq 1 have 1 S:0000000000000000.00\ndump\ndispatch";
+    assert_eq!(missing(few, &ways), ways.len());
+    assert_eq!(missing(few, &changes), changes.len() - 1);
 }
 
 /// A few scripts reach all that is looked for in GETMAIN's answers; what they reach by luck alone,

@@ -10,7 +10,7 @@ use crate::rings::Waits;
 use crate::runner::Runner;
 use crate::services::getmain;
 use crate::sound::is_sound;
-use crate::tables::{Area, Entry};
+use crate::tables::{Area, Named};
 
 fn meets(a: &Area, b: &Area) -> bool {
     (a.address as u64) < b.end() && (b.address as u64) < a.end()
@@ -177,7 +177,7 @@ fn areas_apart_for_every_pair() {
 fn control_by_its_words() {
     let mut random = Random::new(7);
     for _ in 0..20_000 {
-        let mut entries = [Entry::NONE; 8];
+        let mut entries = [Named { task: 0, excl: 0, name: Name::NONE }; 8];
         for entry in entries.iter_mut() {
             entry.excl = random.below(2);
             entry.name = Name { length: 1 + random.below(2), ..Name::NONE };
@@ -193,15 +193,15 @@ fn control_by_its_words() {
 
 /// "A has an entry without control and B an earlier one for that name, one of the two being
 /// exclusive"
-fn waits_at(entries: &[Entry], place: usize, b: u32) -> bool {
+fn waits_at(entries: &[Named], place: usize, b: u32) -> bool {
     let entry = &entries[place];
-    let bars = |e: &Entry| e.name == entry.name && (e.excl == 1 || entry.excl == 1);
+    let bars = |e: &Named| e.name == entry.name && (e.excl == 1 || entry.excl == 1);
     b != entry.task
         && !has_control(entries, place)
         && entries[..place].iter().any(|e| e.task == b && bars(e))
 }
 
-fn places_of(entries: &[Entry], task: u32) -> impl Iterator<Item = usize> + '_ {
+fn places_of(entries: &[Named], task: u32) -> impl Iterator<Item = usize> + '_ {
     (0..entries.len()).filter(move |place| entries[*place].task == task)
 }
 
@@ -223,8 +223,8 @@ fn rings_by_their_words() {
         for _ in 0..random.between(2, 16) {
             let name = Name { length: 1 + random.below(4), ..Name::NONE };
             let task = random.pick(&tasks);
-            if !entries.iter().any(|e: &Entry| e.task == task && e.name == name) {
-                entries.push(Entry { task, excl: random.below(2), name });
+            if !entries.iter().any(|e: &Named| e.task == task && e.name == name) {
+                entries.push(Named { task, excl: random.below(2), name });
             }
         }
         let waits_for = |a, b| places_of(&entries, a).any(|place| waits_at(&entries, place, b));
@@ -242,7 +242,7 @@ fn rings_by_their_words() {
 }
 
 /// Each stuck task once; no earlier entry and no earlier partner would do.
-fn check_items(entries: &[Entry], stuck: &[u32]) {
+fn check_items(entries: &[Named], stuck: &[u32]) {
     let items = stuck::list(entries);
     assert_eq!(items.iter().map(|item| item.task).collect::<Vec<u32>>(), stuck);
     for item in items {

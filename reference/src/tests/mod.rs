@@ -1,9 +1,12 @@
 //! The reference's own tests.
 
+mod breaks;
+mod canonical;
 mod corners;
 mod generated;
 mod hand;
 mod literal;
+mod packing;
 mod refusals;
 mod reports;
 mod skips;
@@ -44,6 +47,27 @@ pub fn expect(pairs: &[(&str, &str)]) {
         assert_eq!(got.get(i), Some(answer), "answer {} of {:?}\nall: {:#?}", i + 1, pairs, got);
     }
     assert_eq!(got.len(), wanted.len());
+}
+
+/// The bytes of the name area in a dump, taken at the end of a script, as hex digits.
+pub fn names_of(script: &str) -> String {
+    dumped(script, "names ").pop().map_or(String::new(), |line| line[6..].to_string())
+}
+
+/// The entries in such a dump: task, mode, name.
+pub fn queued(script: &str) -> Vec<String> {
+    // the line of names ends with the last byte not zero
+    let names = names_of(script) + &"00".repeat(53);
+    let byte = |at: usize| usize::from_str_radix(&names[2 * at..2 * at + 2], 16).unwrap();
+    let told = |line: &String| {
+        let words: Vec<&str> = line.split(' ').collect();
+        let mode = if words[3] == "1" { "E" } else { "S" };
+        let offset: usize = words[4].parse().unwrap();
+        let minor = 2 * (offset + 9);
+        let (major, end) = (&names[2 * offset..minor - 2], minor + 2 * byte(offset + 8));
+        format!("{} {} {}.{}", words[2], mode, major, &names[minor..end])
+    };
+    dumped(script, "entry").iter().map(told).collect()
 }
 
 /// The lines of a dump, taken at the end of a script, that begin with a word.

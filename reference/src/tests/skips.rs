@@ -2,7 +2,7 @@
 
 use std::ops::Range;
 
-use super::{answers, dumped, expect};
+use super::{answers, dumped, expect, queued};
 
 const A: &str = "0000000000000000.0a";
 const B: &str = "0000000000000000.0b";
@@ -17,14 +17,9 @@ fn last(script: &str) -> String {
     answers(script).pop().unwrap()
 }
 
-/// What stands in the entries: task, mode, last byte of the minor part.
+/// What stands in the entries: task, mode, minor part.
 fn queue_of(script: &str) -> Vec<String> {
-    let told = |line: &String| {
-        let words: Vec<&str> = line.split(' ').collect();
-        let mode = if words[3] == "1" { "E" } else { "S" };
-        format!("{} {} {}", words[2], mode, &words[6][..2])
-    };
-    dumped(script, "entry").iter().map(told).collect()
+    queued(script).iter().map(|told| told.replace("0000000000000000.", "")).collect()
 }
 
 /// The tasks in a resource wait.
@@ -200,8 +195,7 @@ fn the_last_entry() {
         let whole = format!("{}enq 2 have 3{}", crowded(15), list);
         let codes = if *fresh_first { "000808" } else { "080800" };
         assert_eq!(last(&whole), format!("4 0 codes={}", codes));
-        let entry = &dumped(&whole, "entry")[127];
-        assert!(entry.starts_with("entry 127 2 0 ee00000000000000 1 00"), "{}", entry);
+        assert_eq!(queued(&whole)[127], "2 S ee00000000000000.00");
     }
 }
 
@@ -213,11 +207,10 @@ fn sixteen_names() {
         (0..8).map(|k| names("ee", k..k + 1) + &names("ff", 7 - k..8 - k)).collect();
     script += &format!("\nenq 3 have 16{}", mixed);
     assert_eq!(last(&script), format!("4 0 codes={}", "0008".repeat(8)));
-    let entries = dumped(&script, "entry");
+    let entries = queued(&script);
     assert_eq!(entries.len(), 2 + 8 + 8);
     for (k, entry) in entries[10..].iter().enumerate() {
-        let start = format!("entry {} 3 0 ee00000000000000 1 {:02x}", 10 + k, k);
-        assert!(entry.starts_with(&start), "{}", entry);
+        assert_eq!(*entry, format!("3 S ee00000000000000.{:02x}", k));
     }
 }
 

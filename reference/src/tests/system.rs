@@ -1,6 +1,6 @@
 //! Document 02, section 2, worked by hand: the system's names.
 
-use super::{answers, dumped, expect};
+use super::{answers, dumped, expect, queued};
 use crate::generate::{generate, KINDS};
 use crate::printer::FILL;
 use crate::request::{Request, Ret};
@@ -146,9 +146,9 @@ fn names_that_are_nearly_such() {
         {
             let line = format!("enq 2 {} E:{}", ret, name);
             assert_eq!(last(&line), *answer, "{}", line);
-            let entries = dumped(&format!("{}{}", START, line), "entry");
+            let entries = queued(&format!("{}{}", START, line));
             assert_eq!(entries.len(), 2, "{}", line);
-            assert!(entries[1].starts_with(&format!("entry 1 2 1 {}", &name[..16])), "{}", line);
+            assert_eq!(entries[1], format!("2 E {}", name), "{}", line);
         }
         assert_eq!(last(&format!("enq 2 test 1 E:{}", name)), "0 0 codes=00");
         assert_eq!(last(&format!("enq 2 chng 1 E:{}", name)), "4 0 codes=08");
@@ -199,14 +199,13 @@ const ANYTHING: [&str; 21] = [
 
 #[test]
 fn sound_tables_hold_no_such_name() {
-    let poked = format!("{}poke entry 0 major e2e8e2c4e2d54040\n", START);
+    let poked = format!("{}poke name 0 e2e8e2c4e2d54040\n", START);
     for line in ANYTHING.iter() {
         assert_eq!(answers(&format!("{}{}", poked, line)).pop().unwrap(), "100 0", "{}", line);
     }
-    let mended = format!("{}poke entry 0 major e2e8e3c4e2d54040\ndispatch", poked);
+    let mended = format!("{}poke name 2 e3\ndispatch", poked);
     assert_eq!(answers(&mended).pop().unwrap(), "0 1");
-    let minor =
-        format!("{}poke entry 0 minor e2e8e2{}\npoke entry 0 length 3\n", START, "0".repeat(82));
+    let minor = format!("{}poke name 8 03e2e8e2\n", START);
     assert_eq!(answers(&(minor + "dispatch")).pop().unwrap(), "0 1");
 }
 
@@ -223,7 +222,7 @@ fn generated_names() {
     let mut seen = [0; 5];
     for kind in KINDS.iter() {
         let mut script = Vec::new();
-        assert!(generate(2, kind, 3000, &mut script).unwrap());
+        assert!(generate(2, kind, 4000, &mut script).unwrap());
         let mut runner = Runner::new();
         each_line(&mut &script[..], |line| {
             let before = runner.step.clone();

@@ -1,6 +1,6 @@
 //! The form of scripts.
 
-use super::{answers, dumped, expect, output};
+use super::{answers, dumped, expect, names_of, output};
 
 #[test]
 fn nothing_and_the_last_line() {
@@ -13,7 +13,7 @@ fn nothing_and_the_last_line() {
     assert_eq!(output(b"\xff\n \n"), b"? 1\n? 2\n");
 }
 
-const UNREADABLE: [&str; 87] = [
+const UNREADABLE: [&str; 109] = [
     " dispatch",
     "dispatch ",
     "dispatch x",
@@ -82,7 +82,29 @@ const UNREADABLE: [&str; 87] = [
     "poke task 1 task 1",
     "poke entry 128 task 1",
     "poke entry 0 major 00",
-    "poke entry 0 name 0",
+    "poke entry 0 minor 00",
+    "poke entry 0 length",
+    "poke entry 0 length x",
+    "poke entry 0 length 4294967296",
+    "poke entry 128 length 1",
+    "poke entry 0 name",
+    "poke entry 0 name x",
+    "poke entry 0 name -1",
+    "poke entry 0 name 4294967296",
+    "poke entry 128 name 0",
+    "poke entry 0 offset 0",
+    "poke name",
+    "poke name 0",
+    "poke name 0 ",
+    "poke name 0 0",
+    "poke name 0 000",
+    "poke name 0 0g",
+    "poke name 0 00 00",
+    "poke name x 00",
+    "poke name -1 00",
+    "poke name 16384 00",
+    "poke name 16383 0000",
+    "poke names 0 00",
     "poke entry 0 major 000000000000000g",
     "poke ecb 64 wait 0",
     "poke ecb 0 need 1",
@@ -151,10 +173,16 @@ fn minor_names() {
     assert_eq!(answers(&format!("fresh 1 1\n{}", longest))[1], "101 0");
     assert_eq!(answers(&format!("fresh 1 1\n{}/2", longest))[1], "0 0");
     assert_eq!(answers(&format!("fresh 1 1\n{}aa/2", longest))[1], "? 2");
-    let kept = dumped(&format!("fresh 1 1\n{}/2", longest), "entry");
-    assert_eq!(kept, [format!("entry 0 1 1 0000000000000000 2 abab{}", "00".repeat(42))]);
-    let padded = dumped("fresh 1 1\nenq 1 none 0 S:FF00000000000000.01/44", "entry");
-    assert_eq!(padded, [format!("entry 0 1 0 ff00000000000000 44 01{}", "00".repeat(43))]);
+    let kept = format!("fresh 1 1\n{}/2", longest);
+    assert_eq!(dumped(&kept, "entry"), ["entry 0 1 1 0"]);
+    assert_eq!(dumped(&kept, "names"), ["names 000000000000000002abab"]);
+    let padded = "fresh 1 1\nenq 1 none 0 S:FF00000000000000.01/44 E:00000000000000FE.02";
+    assert_eq!(dumped(padded, "entry"), ["entry 0 1 0 0", "entry 1 1 1 53"]);
+    let rest = "00".repeat(43);
+    assert_eq!(
+        dumped(padded, "names"),
+        [format!("names ff000000000000002c01{}00000000000000fe0102", rest)]
+    );
 }
 
 #[test]
@@ -180,19 +208,16 @@ fn pokes_and_dumps() {
     expect(&[
         ("poke step over 0", "ok"),
         ("poke task 32 limit 7", "ok"),
-        ("poke entry 3 major FFffFFffFFffFFff", "ok"),
-        (&format!("poke entry 127 minor {}Af", "00".repeat(43)), "ok"),
-        ("poke entry 3 length 65535", "ok"),
+        ("poke entry 3 name 0000065535", "ok"),
+        ("poke entry 127 excl 1", "ok"),
+        ("poke name 00002 Af", "ok"),
+        ("poke name 3 0000", "ok"),
         ("poke ecb 63 code 9", "ok"),
         ("poke area 127 address 1", "ok"),
         (
             "dump",
-            &format!(
-                "step 0 0\ntask 32 0 0 7 0 0 0 0 0\nentry 3 0 0 ffffffffffffffff 65535 {}
-             entry 127 0 0 0000000000000000 0 {}af\necb 63 0 0 9 0\narea 127 1 0 0 0",
-                "00".repeat(44),
-                "00".repeat(43)
-            ),
+            "step 0 0\ntask 32 0 0 7 0 0 0 0 0\nentry 3 0 0 65535\nentry 127 0 1 0
+             names 0000af\necb 63 0 0 9 0\narea 127 1 0 0 0",
         ),
         ("dispatch", "100 0"),
         ("fresh 3 2", "0 0"),
@@ -214,8 +239,32 @@ fn what_cannot_be_held() {
         ("poke task 1 limit 256", "! 9"),
         ("poke task 1 ecb 1", "! 10"),
         ("poke task 1 need 1", "! 11"),
-        ("poke entry 0 length 65536", "! 12"),
+        ("poke entry 0 name 65536", "! 12"),
         ("poke area 0 owner 256", "! 13"),
+        ("poke entry 0 task 256", "! 14"),
+        ("poke entry 0 name 4294967295", "! 15"),
+        ("poke entry 0 length 1", "! 16"),
+        ("poke entry 127 length 4294967295", "! 17"),
+        ("poke entry 0 major 0000000000000000", "! 18"),
+        (&format!("poke entry 0 minor {}", "aB".repeat(44)), "! 19"),
+        ("dump", "step 1 0"),
+    ]);
+}
+
+/// "1 to 300 bytes within the area"
+#[test]
+fn pokes_of_the_name_area() {
+    let bytes = |count: usize| "a0".repeat(count);
+    let at_the_end = format!("poke name 16084 {}", bytes(300));
+    assert_eq!(answers(&at_the_end), ["ok"]);
+    assert_eq!(names_of(&at_the_end), "00".repeat(16_084) + &bytes(300));
+    assert_eq!(answers(&format!("poke name 16085 {}", bytes(300))), ["? 1"]);
+    assert_eq!(answers(&format!("poke name 0 {}", bytes(301))), ["? 1"]);
+    expect(&[
+        ("poke name 16383 01", "ok"),
+        ("dispatch", "100 0"),
+        ("poke name 0000016383 00", "ok"),
+        ("dispatch", "108 0"),
         ("dump", "step 1 0"),
     ]);
 }

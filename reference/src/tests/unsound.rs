@@ -3,7 +3,7 @@
 use super::dumped;
 use crate::names::SYSTEM;
 use crate::runner::Runner;
-use crate::sound::{is_sound, RULES};
+use crate::sound::{broken, is_sound};
 use crate::tables::{Area, Step};
 
 /// Task 2 live with an ECB, 3 ended, 4 in an ECB wait, 5 in a resource wait.
@@ -29,10 +29,6 @@ fn full_life() -> Step {
         runner.take(line.as_bytes());
     }
     runner.step
-}
-
-fn broken(step: &Step) -> Vec<&'static str> {
-    RULES.iter().filter(|(_, rule)| !rule(step)).map(|(name, _)| *name).collect()
 }
 
 fn breaks<F: Fn(&mut Step)>(name: &str, change: F) {
@@ -80,38 +76,36 @@ fn step_and_tasks() {
 
 #[test]
 fn entries() {
-    breaks("range-entry", |s| s.entries[0].task = 0);
+    breaks("range-entry", |s| s.entries[0].task = 33);
     breaks("range-entry", |s| s.entries[0].excl = 2);
-    breaks("range-entry", |s| s.entries[0].name.length = 0);
-    breaks("range-entry", |s| s.entries[0].name.length = 45);
     breaks("packed-entry", |s| s.entries[4] = s.entries[2]);
-    breaks("zero-minor", |s| s.entries[0].name.minor[1] = 1);
+    breaks("zero-entry", |s| s.entries[0].task = 0);
+    breaks("zero-entry", |s| s.entries[3].excl = 1);
     breaks("entry-live", |s| s.entries[0].task = 3);
     breaks("entry-live", |s| s.entries[0].task = 9);
     breaks("entry-once", |s| s.entries[3] = s.entries[0]);
     breaks("entry-once", |s| s.entries[0].task = 5);
-    breaks("resource-wait", |s| s.entries[0].name.major[0] = 1);
+    breaks("resource-wait", |s| s.entries[0].offset = 20);
     breaks("resource-wait", |s| s.entries[0].excl = 0);
     breaks("resource-wait", |s| s.tasks[5].rwait = 0);
     breaks("resource-wait", |s| s.tasks[2].rwait = 1);
     breaks("one-wait", |s| s.tasks[5].need = 1);
 }
 
-/// Beside the rule on name lengths, and apart from it.
+/// Beside the rule on name lengths, and apart from it.  The names lie at 0 and 10.
 #[test]
 fn names_of_the_system() {
-    let poke = |s: &mut Step, i: usize| s.entries[i].name.major[..3].copy_from_slice(&SYSTEM);
-    for i in 0..3 {
-        breaks("system-name", |s| poke(s, i));
+    let poke = |s: &mut Step, offset: usize| s.names[offset..offset + 3].copy_from_slice(&SYSTEM);
+    for offset in [0, 10] {
+        breaks("system-name", |s| poke(s, offset));
     }
     let mut step = full_life();
-    poke(&mut step, 2);
+    poke(&mut step, 10);
     assert_eq!(broken(&step), ["system-name"]);
-    step.entries[2].name.length = 0;
-    step.entries[2].name.minor[0] = 0;
-    assert_eq!(broken(&step), ["range-entry", "system-name"]);
-    step.entries[2].name.major[2] += 1;
-    assert_eq!(broken(&step), ["range-entry"]);
+    step.names[18..20].copy_from_slice(&[0, 0]);
+    assert_eq!(broken(&step), ["name-length", "system-name"]);
+    step.names[12] += 1;
+    assert_eq!(broken(&step), ["name-length"]);
 }
 
 #[test]

@@ -1,22 +1,18 @@
--- Where one of the two is exclusive the contract of the names' comparison decides, and else nothing bars.
-use mathlib.Core.Path.{_∙_}
-use mathlib.Core.Logic.{⊎-elim}
-use Rattle.laws.specs.Control.{bars-first, bars-second, bars-neither}
-use borrow.Author.Needs.{needs}
+-- The tests are the parts of the definition, two offsets being equal where their names are one.
+use mathlib.Core.Path.{sym, ap}
+use mathlib.Core.Bool.{Bool, _&&_, _||_}
+use Rattle.names.specs.Pointers.{same-pointer}
+use Rattle.rules.specs.Rings.{bars}
 use Rattle.queue.proofs.bars.Statement.{statement}
 use Rattle.queue.proofs.bars.Tie as tie
 
-same-name-requires : tie.Need-same-name-requires
-same-name-requires c κs = search needs
-
 returns : tie.Need-returns
+unfolding bars
 returns c =
-    c .same-name .ensures
-    ∙ ⊎-elim (λ w. bars-first _ _ (w .taken)) (λ w. bars-second _ _ (w .1 .taken))
-    (c .before .before .before .if1 .came)
-
-returns-2 : tie.Need-returns-2
-returns-2 c = bars-neither _ _ (c .before .if1 .left) (c .if2 .left)
+    let a = c .before .before .before .before .args in
+    let x = a .x in
+    let e = a .e in
+    sym (ap (λ (b : Bool). b && (x .exclusive || e .exclusive)) (same-pointer (x .name .0) (e .name .0)))
 
 pub bars-spec : {M : Type 1} → statement M
-bars-spec = tie.close (tie.spec same-name-requires returns returns-2)
+bars-spec = tie.close (tie.spec returns)

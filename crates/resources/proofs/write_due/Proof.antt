@@ -7,13 +7,13 @@ use borrow.Author.Needs.{needs}
 use Rattle.lists.specs.Arrays.{mapped-length}
 use Rattle.lists.specs.Pick.{on-true, on-false}
 use Rattle.kinds.specs.Limits.{longestList}
-use Rattle.names.specs.Named.{namesIn}
+use Rattle.names.specs.Pointers.{pointedIn}
 use Rattle.queue.proofs.Flagged.{asks-length}
 use Rattle.resources.proofs.Changes.{due-room}
 use Rattle.resources.proofs.write_due.Statement.{statement}
 use Rattle.resources.proofs.write_due.Tie as tie
 
-counted : (c : tie.Start) → length (namesIn (c .args .l) .asks) ≡ c .args .l .count
+counted : (c : tie.Start) → length (pointedIn (c .args .l) .asks) ≡ c .args .l .count
 counted c =
     let h : length (c .args .l .names) ≡ longestList = search (needs, mapped-length) in
     asks-length (c .args .l) (omega arith)
@@ -25,7 +25,7 @@ write-requires : tie.Need-write-requires
 write-requires c κs =
     let s = c .before .before .before in
     let a = s .args in
-    (s .pre .0, due-room (a .due) _ _ (namesIn (a .l)) (counted s) (not-false _ (c .before .if1 .left)) (s .pre .1))
+    (s .pre .0, due-room (a .due) _ _ (pointedIn (a .l)) (counted s) (not-false _ (c .before .if1 .left)) (s .pre .1))
 
 same-length : tie.Need-same-length
 same-length c = search needs

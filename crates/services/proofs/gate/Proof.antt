@@ -9,13 +9,12 @@ use borrow.Author.Needs.{needs}
 use Rattle.services.proofs.gate.Statement.{statement}
 use Rattle.services.proofs.gate.Tie as tie
 
-sound-requires : tie.Need-sound-requires
-sound-requires c κs = search needs
+is-sound-requires : tie.Need-is-sound-requires
+is-sound-requires c κs = search needs
 
 returns : tie.Need-returns
-returns c =
-    let a = c .before .before .args in
-    gate-unsound (a .t) (gateFor (a .who)) (sym (c .before .sound .ensures) ∙ not-true _ (c .if1 .taken))
+returns c = gate-unsound _ (gateFor ((c .before .before .before .args) .who))
+    (sym ((c .before .is-sound) .ensures) ∙ not-true _ ((c .if1) .taken))
 
 enum-told : tie.Need-enum-told
 enum-told c = search needs
@@ -41,22 +40,22 @@ admit-requires-2 c κs = search needs
 returns-2 : tie.Need-returns-2
 unfolding openGate
 returns-2 c =
-    let i = c .before .before .before in
-    let a = i .before .before .args in
-    let k : a .who ≡ Nobody = search needs in
-    gate-is (a .t) (gateFor (a .who)) _ (sym (i .before .sound .ensures) ∙ not-false _ (i .if1 .left))
-    (rw k (c .admit .ensures))
+    let k : (c .before .before .before .before .before .before .args) .who ≡ Nobody = search needs in
+    gate-is _ (gateFor ((c .before .before .before .before .before .before .args) .who)) _
+    (sym ((c .before .before .before .before .is-sound) .ensures) ∙ not-false _
+    ((c .before .before .before .if1) .left)) (rw k ((c .admit) .ensures))
 
 returns-3 : tie.Need-returns-3
 returns-3 c =
-    let w = c .before .before .before .before .before in
-    let i = w .before .before in
-    let a = i .before .before .args in
-    gate-is (a .t) (gateFor (a .who)) _ (sym (i .before .sound .ensures) ∙ not-false _ (i .if1 .left))
-    (rw (w .who .given .1) (caller-gate (a .t) _ _ _ _ _ (c .admit2 .ensures) (c .before .before .is-live .ensures)
-    (c .before .waits .ensures) (c .before .before .before .at .ensures)))
+    gate-is _ (gateFor ((c .before .before .before .before .before .before .before .before .before .before .args)
+    .who)) _ (sym ((c .before .before .before .before .before .before .before .before .is-sound) .ensures) ∙
+    not-false _ ((c .before .before .before .before .before .before .before .if1) .left))
+    (rw ((c .before .before .before .before .before .who) .given .1)
+    (caller-gate ((c .before .before .before .before .before .before .before .before .before .before .args) .t) _
+    _ _ _ _ _ ((c .admit2) .ensures) ((c .before .before .is-live) .ensures)
+    ((c .before .waits) .ensures) ((c .before .before .before .at) .ensures)))
 
 pub gate-spec : {M : Type 1} → statement M
 gate-spec =
-    tie.close (tie.spec sound-requires returns enum-told admit-requires enum-known-who at-requires is-live-requires
+    tie.close (tie.spec is-sound-requires returns enum-told admit-requires enum-known-who at-requires is-live-requires
     waits-requires admit-requires-2 returns-2 returns-3)

@@ -96,7 +96,7 @@ returns c =
     let s = c .before .before .before in
     let a = s .args in
     let e : l .i ≡ a .t1 .count = omega arith in
-    rw e at (l .inv .0) ∙ swept-rows (entryStays (a .f .places)) (a .t1) (s .pre) (l .inv .1 .2)
+    rw e at (l .inv .0) ∙ swept-rows (entryStays (a .f .places)) (a .t1)
 
 pub entries-left-spec : {M : Type 1} → statement M
 entries-left-spec =

@@ -28,8 +28,8 @@ mul-x c = omega arith
 array-copy-out-x : tie.Need-array-copy-out-x Inv-loop μ-loop
 array-copy-out-x c = omega arith
 
-cast-x : tie.Need-cast-x Inv-loop μ-loop
-cast-x c = omega arith
+cast-code : tie.Need-cast-code Inv-loop μ-loop
+cast-code c = omega arith
 
 sub-pair : tie.Need-sub-pair Inv-loop μ-loop
 sub-pair c = omega arith
@@ -60,5 +60,5 @@ returns c = search needs
 
 pub copies-spec : {M : Type 1} → statement M
 copies-spec =
-    tie.close (tie.spec Inv-loop μ-loop full-tables-requires loop-holds cast-at mul-x array-copy-out-x cast-x sub-pair
-    mul-pair array-set-from-pair add-i loop-less loop-again array-copy-out-last cast-result returns)
+    tie.close (tie.spec Inv-loop μ-loop full-tables-requires loop-holds cast-at mul-x array-copy-out-x cast-code
+    sub-pair mul-pair array-set-from-pair add-i loop-less loop-again array-copy-out-last cast-result returns)

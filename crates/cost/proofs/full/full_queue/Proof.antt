@@ -21,11 +21,11 @@ empty-requires c κs = search needs
 loop-holds : tie.Need-loop-holds Inv-loop μ-loop
 loop-holds c = (omega arith, search (needs, mapped-length))
 
-cast-name : tie.Need-cast-name Inv-loop μ-loop
-cast-name c = omega arith
+mul-at : tie.Need-mul-at Inv-loop μ-loop
+mul-at c = omega arith
 
-element-write-name : tie.Need-element-write-name Inv-loop μ-loop
-element-write-name c = search needs
+cast-at : tie.Need-cast-at Inv-loop μ-loop
+cast-at c = omega arith
 
 add-task : tie.Need-add-task Inv-loop μ-loop
 add-task c = omega arith
@@ -56,5 +56,5 @@ returns c = search needs
 
 pub full-queue-spec : {M : Type 1} → statement M
 full-queue-spec =
-    tie.close (tie.spec Inv-loop μ-loop empty-requires loop-holds cast-name element-write-name add-task cast-task
-    task-requires mul-x element-set-from-x add-i loop-less loop-again returns)
+    tie.close (tie.spec Inv-loop μ-loop empty-requires loop-holds mul-at cast-at add-task cast-task task-requires
+    mul-x element-set-from-x add-i loop-less loop-again returns)

@@ -17,8 +17,8 @@ full-tables-requires c κs = search needs
 loop-holds : tie.Need-loop-holds Inv-loop μ-loop
 loop-holds c = (omega arith, omega arith)
 
-cast-t : tie.Need-cast-t Inv-loop μ-loop
-cast-t c = omega arith
+cast-code : tie.Need-cast-code Inv-loop μ-loop
+cast-code c = omega arith
 
 sound-requires : tie.Need-sound-requires Inv-loop μ-loop
 sound-requires c κs = search needs
@@ -43,5 +43,5 @@ returns c = omega arith
 
 pub tests-spec : {M : Type 1} → statement M
 tests-spec =
-    tie.close (tie.spec Inv-loop μ-loop full-tables-requires loop-holds cast-t sound-requires one-if-requires add-hits
-    add-i loop-less loop-again returns)
+    tie.close (tie.spec Inv-loop μ-loop full-tables-requires loop-holds cast-code sound-requires one-if-requires
+    add-hits add-i loop-less loop-again returns)

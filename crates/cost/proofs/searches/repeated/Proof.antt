@@ -66,7 +66,7 @@ served-requires c κs = search needs
 cast-x : tie.Need-cast-x Inv-loop μ-loop
 cast-x c =
     let l = c .before .before .before .before .before .before .before in
-    omega (arith, l .loop .inv .0, l .before .before .before .before .before .before .before .before .fits .n)
+    omega (arith, l .loop .inv .0, l .before .before .before .before .before .before .before .fits .n)
 
 mul-x : tie.Need-mul-x Inv-loop μ-loop
 mul-x c = omega arith

@@ -12,8 +12,8 @@ Inv-loop line at list₀ next₀ count₀ list next count = count ≤ mostListed
 abbrev μ-loop : tie.MeasureT-loop
 μ-loop line at list₀ next₀ count₀ list next count = mostListed - count
 
-no-ecbs-requires : tie.Need-no-ecbs-requires Inv-loop μ-loop
-no-ecbs-requires c κs = search needs
+none-requires : tie.Need-none-requires Inv-loop μ-loop
+none-requires c κs = search needs
 
 loop-holds : tie.Need-loop-holds Inv-loop μ-loop
 loop-holds c = omega arith
@@ -56,5 +56,5 @@ returns-3 c = search needs
 
 pub read-ecbs-spec : {M : Type 1} → statement M
 read-ecbs-spec =
-    tie.close (tie.spec Inv-loop μ-loop no-ecbs-requires loop-holds none-at-requires returns read-requires returns-2
+    tie.close (tie.spec Inv-loop μ-loop none-requires loop-holds none-at-requires returns read-requires returns-2
     cast-if4 byte-requires cast-t15 element-set-from-list add-count loop-less loop-again returns-3)

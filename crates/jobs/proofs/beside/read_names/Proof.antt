@@ -12,8 +12,8 @@ Inv-loop line at marks list₀ next₀ count₀ list next count = count ≤ most
 abbrev μ-loop : tie.MeasureT-loop
 μ-loop line at marks list₀ next₀ count₀ list next count = mostListed - count
 
-no-names-requires : tie.Need-no-names-requires Inv-loop μ-loop
-no-names-requires c κs = search needs
+none-requires : tie.Need-none-requires Inv-loop μ-loop
+none-requires c κs = search needs
 
 loop-holds : tie.Need-loop-holds Inv-loop μ-loop
 loop-holds c = omega arith
@@ -56,5 +56,5 @@ returns-3 c = search needs
 
 pub read-names-spec : {M : Type 1} → statement M
 read-names-spec =
-    tie.close (tie.spec Inv-loop μ-loop no-names-requires loop-holds none-at-requires returns asked-requires returns-2
+    tie.close (tie.spec Inv-loop μ-loop none-requires loop-holds none-at-requires returns asked-requires returns-2
     cast-if4 cast-w mul-w element-set-from-w add-count loop-less loop-again returns-3)

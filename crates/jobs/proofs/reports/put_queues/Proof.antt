@@ -11,11 +11,11 @@ use Rattle.jobs.proofs.reports.put_queues.Statement.{statement}
 use Rattle.jobs.proofs.reports.put_queues.Tie as tie
 
 abbrev Inv-loop : tie.InvT-loop
-Inv-loop count out₀ at q list k₀ i₀ out k i =
+Inv-loop names count out₀ at q list k₀ i₀ out k i =
     (i ≤ count) × (count ≤ mostRoom) × (length list ≡ 2 * mostRoom) × Kept at k
 
 abbrev μ-loop : tie.MeasureT-loop
-μ-loop count out₀ at q list k₀ i₀ out k i = count - i
+μ-loop names count out₀ at q list k₀ i₀ out k i = count - i
 
 loop-holds : tie.Need-loop-holds Inv-loop μ-loop
 loop-holds c = (omega arith, omega arith, search needs, omega arith)

@@ -1,26 +1,42 @@
 -- i is within the items, which have room, and a failed write is not forgotten (invariant); items left fall (measure).
 use Prim.Native.Nat.{_≤_, _-_, _*_}
+use mathlib.Core.Logic.{⊎-elim}
 use mathlib.Core.Path.{_≡_}
-use borrow.Author.Needs.{needs}
-use native.Mathlib.Omega.{arith}
 use lib.ListN.{length}
 use Rattle.jobs.specs.Places.{Kept}
 use Rattle.jobs.specs.Sizes.{mostRoom}
+use borrow.Author.Needs.{needs}
+use native.Mathlib.Omega.{arith}
 use Rattle.jobs.proofs.reports.put_stuck.Statement.{statement}
 use Rattle.jobs.proofs.reports.put_stuck.Tie as tie
 
 abbrev Inv-loop : tie.InvT-loop
-Inv-loop q count out₀ at list k₀ i₀ out k i =
+Inv-loop names count out₀ at q list k₀ i₀ out k i =
     (i ≤ count) × (count ≤ mostRoom) × (length list ≡ 3 * mostRoom) × Kept at k
 
 abbrev μ-loop : tie.MeasureT-loop
-μ-loop q count out₀ at list k₀ i₀ out k i = count - i
+μ-loop names count out₀ at q list k₀ i₀ out k i = count - i
 
 loop-holds : tie.Need-loop-holds Inv-loop μ-loop
 loop-holds c = (omega arith, omega arith, search needs, omega arith)
 
 mul-item : tie.Need-mul-item Inv-loop μ-loop
 mul-item c = omega arith
+
+add-place : tie.Need-add-place Inv-loop μ-loop
+add-place c = omega arith
+
+array-read-place : tie.Need-array-read-place Inv-loop μ-loop
+array-read-place c = omega arith
+
+cast-place : tie.Need-cast-place Inv-loop μ-loop
+cast-place c = search needs
+
+mul-x : tie.Need-mul-x Inv-loop μ-loop
+mul-x c = omega arith
+
+element-copy-out-x : tie.Need-element-copy-out-x Inv-loop μ-loop
+element-copy-out-x c = omega arith
 
 array-read-put-stuck-item : tie.Need-array-read-put-stuck-item Inv-loop μ-loop
 array-read-put-stuck-item c = omega arith
@@ -30,12 +46,6 @@ add-put-stuck-item c = omega arith
 
 array-read-put-stuck-item-2 : tie.Need-array-read-put-stuck-item-2 Inv-loop μ-loop
 array-read-put-stuck-item-2 c = omega arith
-
-add-put-stuck-item-2 : tie.Need-add-put-stuck-item-2 Inv-loop μ-loop
-add-put-stuck-item-2 c = omega arith
-
-array-read-put-stuck-item-3 : tie.Need-array-read-put-stuck-item-3 Inv-loop μ-loop
-array-read-put-stuck-item-3 c = omega arith
 
 put-stuck-item-requires : tie.Need-put-stuck-item-requires Inv-loop μ-loop
 put-stuck-item-requires c κs = search needs
@@ -47,13 +57,13 @@ loop-less : tie.Need-loop-less Inv-loop μ-loop
 loop-less c = omega arith
 
 loop-again : tie.Need-loop-again Inv-loop μ-loop
-loop-again c = omega arith
+loop-again c = ⊎-elim (λ w. omega arith) (λ w. omega arith) (c .if1 .came)
 
 returns : tie.Need-returns Inv-loop μ-loop
 returns c = search needs
 
 pub put-stuck-spec : {M : Type 1} → statement M
 put-stuck-spec =
-    tie.close (tie.spec Inv-loop μ-loop loop-holds mul-item array-read-put-stuck-item add-put-stuck-item
-    array-read-put-stuck-item-2 add-put-stuck-item-2 array-read-put-stuck-item-3 put-stuck-item-requires add-i loop-less
-    loop-again returns)
+    tie.close (tie.spec Inv-loop μ-loop loop-holds mul-item add-place array-read-place cast-place mul-x
+    element-copy-out-x array-read-put-stuck-item add-put-stuck-item array-read-put-stuck-item-2 put-stuck-item-requires
+    add-i loop-less loop-again returns)

@@ -70,8 +70,11 @@ answer-requires c κs = search needs
 enum-known-what-4 : tie.Need-enum-known-what-4 Inv-loop μ-loop
 enum-known-what-4 c = search needs
 
+slice-aggregate-poked : tie.Need-slice-aggregate-poked Inv-loop μ-loop
+slice-aggregate-poked c = search needs
+
 poked-requires : tie.Need-poked-requires Inv-loop μ-loop
-poked-requires c κs = search needs
+poked-requires c κs = omega arith
 
 say-requires-2 : tie.Need-say-requires-2 Inv-loop μ-loop
 say-requires-2 c κs = search needs
@@ -102,5 +105,5 @@ run-spec =
     tie.close (tie.spec Inv-loop μ-loop start-requires passed-requires loop-holds slice-aggregate-line line-requires
     slice-aggregate-read read-requires enum-known-what say-requires enum-known-what-2 array-borrow-prefix-codes
     slice-aggregate-serve serve-requires answer-with-requires enum-known-what-3 fresh-requires answer-requires
-    enum-known-what-4 poked-requires say-requires-2 enum-known-what-5 put-requires add-number loop-less loop-again
-    flush-requires returns)
+    enum-known-what-4 slice-aggregate-poked poked-requires say-requires-2 enum-known-what-5 put-requires add-number
+    loop-less loop-again flush-requires returns)

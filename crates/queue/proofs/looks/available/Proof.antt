@@ -14,7 +14,7 @@ use Rattle.lists.specs.Arrays.{within, mapped-length}
 use Rattle.lists.specs.Bools.{both}
 use Rattle.kinds.specs.Limits.{longestList}
 use Rattle.rules.specs.Control.{available}
-use Rattle.names.specs.Named.{askOf}
+use Rattle.names.specs.Pointers.{pointedAsk}
 use Rattle.queue.specs.Queues.{entryOf, entriesIn}
 use Rattle.queue.proofs.Barring.{Seeking, seek-start, seek-next, seek-end}
 use Rattle.queue.proofs.Filled.{Filled, none-filled, ask-next}
@@ -31,7 +31,7 @@ abbrev μ-loop2 : tie.MeasureT-loop2
 
 abbrev Inv-loop : tie.InvT-loop
 Inv-loop q l n m r₀ i₀ r i =
-    Filled false (available (entriesIn q)) (map askOf (l .names)) i (r .of)
+    Filled false (available (entriesIn q)) (map pointedAsk (l .names)) i (r .of)
     × ((i ≤ m) × (n ≤ length (q .slots)) × (length (l .names) ≡ longestList))
 
 abbrev μ-loop : tie.MeasureT-loop

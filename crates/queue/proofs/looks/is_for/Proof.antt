@@ -1,17 +1,15 @@
--- Each return cites the test that led to it, the second also the contract of the comparison of names.
-use borrow.Author.Tests.{eq-eqb, ne-eqb}
-use borrow.Author.Needs.{needs}
+-- The tests are the parts of the definition, two offsets being equal where their names are one.
+use mathlib.Core.Path.{sym, ap}
+use mathlib.Core.Bool.{Bool, _&&_}
+use lib.Dec.{eqb}
+use Rattle.names.specs.Pointers.{same-pointer}
 use Rattle.queue.proofs.looks.is_for.Statement.{statement}
 use Rattle.queue.proofs.looks.is_for.Tie as tie
 
 returns : tie.Need-returns
-returns c = rw (ne-eqb _ _ (c .if1 .taken))
-
-same-name-requires : tie.Need-same-name-requires
-same-name-requires c κs = search needs
-
-returns-2 : tie.Need-returns-2
-returns-2 c = rw (eq-eqb _ _ (c .before .before .if1 .left)) (c .same-name .ensures)
+returns c =
+    let a = c .before .before .before .before .args in
+    sym (ap (λ (s : Bool). eqb (a .x .task .0) (a .t .0) && s) (same-pointer (a .x .name .0) (a .n .0)))
 
 pub is-for-spec : {M : Type 1} → statement M
-is-for-spec = tie.close (tie.spec returns same-name-requires returns-2)
+is-for-spec = tie.close (tie.spec returns)

@@ -1,18 +1,19 @@
 -- The first i slots are changed, and the search along the names is on (invariants); what is left falls (measures).
 use Prim.Native.Nat.{ℕ, _≤_, _-_}
-use mathlib.Core.Path.{_≡_, refl, ap, _∙_}
+use mathlib.Core.Path.{_≡_, refl, sym, ap, _∙_}
 use mathlib.Core.List.{_++_, map}
 use native.Mathlib.Omega.{arith}
 use borrow.Author.Needs.{needs}
-use lib.ListN.{length, take, drop, length-set}
+use lib.ListN.{length, take, drop, length-map, length-set}
 use Rattle.lists.specs.Arrays.{mapped-length}
 use Rattle.kinds.specs.Limits.{mostEntries, longestList}
-use Rattle.names.specs.Named.{namesIn}
+use Rattle.names.specs.Pointers.{pointedIn}
 use Rattle.rules.specs.Names.{namesOf}
 use Rattle.rules.specs.Enq.{madeExclusive}
-use Rattle.queue.proofs.Views.{changed-rows}
+use Rattle.queue.specs.Queues.{entriesIn}
+use Rattle.queue.proofs.Views.{entries-shown, changed-rows}
 use Rattle.queue.proofs.Looking.{Looking, look-start, look-next, look-end, look-on}
-use Rattle.queue.proofs.Exclusive.{exclusiveSlot, exclusive-kept, exclusive-next}
+use Rattle.queue.proofs.Exclusive.{exclusiveSlot, exclusive-shown, exclusive-next}
 use Rattle.queue.proofs.queuing.made_exclusive.Statement.{statement}
 use Rattle.queue.proofs.queuing.made_exclusive.Tie as tie
 
@@ -27,7 +28,7 @@ abbrev Inv-loop : tie.InvT-loop
 Inv-loop c l n k r₀ i₀ r i =
     (i ≤ n) × (n ≤ mostEntries) × (length (r₀ .slots) ≡ mostEntries) × (length (l .names) ≡ longestList)
     × (length (r .slots) ≡ mostEntries) × (r .count ≡ r₀ .count)
-    × (r .slots ≡ map (exclusiveSlot (c .0) (namesOf (namesIn l))) (take i (r₀ .slots)) ++ drop i (r₀ .slots))
+    × (r .slots ≡ map (exclusiveSlot (c .0) (namesOf (pointedIn l))) (take i (r₀ .slots)) ++ drop i (r₀ .slots))
 
 abbrev μ-loop : tie.MeasureT-loop
 μ-loop c l n k r₀ i₀ r i = n - i
@@ -62,27 +63,24 @@ mul-w c = let h = look-on (c .before .loop2 .inv .3) (c .loop2-test .taken) in o
 element-copy-out-w : tie.Need-element-copy-out-w Inv-loop2 μ-loop2 Inv-loop μ-loop
 element-copy-out-w c = let h = look-on (c .before .loop2 .inv .3) (c .loop2-test .taken) in omega arith
 
-same-name-requires : tie.Need-same-name-requires Inv-loop2 μ-loop2 Inv-loop μ-loop
-same-name-requires c κs = search needs
-
 add-j : tie.Need-add-j Inv-loop2 μ-loop2 Inv-loop μ-loop
 add-j c =
-    let t = c .before .before .before in
+    let t = c .before .before .before .before in
     let h = look-on (t .before .loop2 .inv .3) (t .loop2-test .taken) in
     omega arith
 
 loop2-less : tie.Need-loop2-less Inv-loop2 μ-loop2 Inv-loop μ-loop
 loop2-less c =
-    let t = c .before .before .before in
+    let t = c .before .before .before .before in
     let h = look-on (t .before .loop2 .inv .3) (t .loop2-test .taken) in
     omega arith
 
 loop2-again : tie.Need-loop2-again Inv-loop2 μ-loop2 Inv-loop μ-loop
 loop2-again c =
-    let t = c .before .before .before in
+    let t = c .before .before .before .before in
     let v = t .before .loop2 .inv .3 in
     let h = look-on v (t .loop2-test .taken) in
-    let e = look-next (c .same-name .result) _ v (t .loop2-test .taken) (omega arith) (c .same-name .ensures) in
+    let e = look-next _ v (t .loop2-test .taken) (omega arith) in
     (omega arith, omega arith, omega arith, e)
 
 mul-y : tie.Need-mul-y Inv-loop2 μ-loop2 Inv-loop μ-loop
@@ -108,7 +106,7 @@ loop-again c =
       omega arith,
       length-set (l .r .slots) (l .i) _ ∙ l .inv .4,
       l .inv .5,
-      exclusive-next (a .c .0) (namesOf (namesIn (a .t3))) (a .q .slots) (l .r .slots) (l .i) _
+      exclusive-next (a .c .0) (namesOf (pointedIn (a .t3))) (a .q .slots) (l .r .slots) (l .i) _
           (c .before .before .loop2 .found) (omega arith) (l .inv .6)
           (look-end (c .before .before .loop2 .inv .3) (c .before .loop2-test .left) (omega arith)),
     )
@@ -118,13 +116,16 @@ returns c =
     let a = c .before .before .args in
     let l = c .before .loop in
     let e : l .i ≡ a .q .count = omega arith in
-    let ns = namesOf (namesIn (a .t3)) in
+    let ns = namesOf (pointedIn (a .t3)) in
     let g = exclusiveSlot (a .c .0) ns in
-    changed-rows (madeExclusive (a .c .0) ns) g (exclusive-kept (a .c .0) ns) (a .q) (c .before .before .pre .0)
-    (l .inv .2) (l .r) (l .inv .6 ∙ ap (λ (k : ℕ). map g (take k (a .q .slots)) ++ drop k (a .q .slots)) e) (l .inv .5)
+    let f = madeExclusive (a .c .0) ns in
+    let s = exclusive-shown (a .c .0) ns (take (a .q .count) (a .q .slots)) in
+    changed-rows (map g) (map f (entriesIn (a .q))) (a .q) (c .before .before .pre .0)
+    (s ∙ ap (map f) (sym (entries-shown (a .q)))) (length-map (entriesIn (a .q)) f) (l .r)
+    (l .inv .6 ∙ ap (λ (k : ℕ). map g (take k (a .q .slots)) ++ drop k (a .q .slots)) e) (l .inv .5)
 
 pub made-exclusive-spec : {M : Type 1} → statement M
 made-exclusive-spec =
     tie.close (tie.spec Inv-loop2 μ-loop2 Inv-loop μ-loop cast-k loop-holds mul-x element-copy-out-x loop2-holds mul-w
-    element-copy-out-w same-name-requires add-j loop2-less loop2-again mul-y element-set-from-y add-i loop-less
+    element-copy-out-w add-j loop2-less loop2-again mul-y element-set-from-y add-i loop-less
     loop-again returns)

@@ -8,7 +8,6 @@ use borrow.Author.Tests.{not-true, not-false}
 use lib.ListN.{length}
 use Rattle.lists.specs.Arrays.{mapped-length}
 use Rattle.kinds.specs.Limits.{mostEntries, longestList}
-use Rattle.names.proofs.Listed.{name-short}
 use Rattle.queue.proofs.Builds.{Tailed, tailed-start, tailed-room, tailed-next, tailed-passed, tailed-end}
 use Rattle.queue.proofs.queuing.with_tail.Statement.{statement}
 use Rattle.queue.proofs.queuing.with_tail.Tie as tie
@@ -49,19 +48,14 @@ mul-w c = omega arith
 element-copy-out-w : tie.Need-element-copy-out-w Inv-loop μ-loop
 element-copy-out-w c = omega arith
 
-clean-requires : tie.Need-clean-requires Inv-loop μ-loop
-clean-requires c κs =
-    let l = c .before .before .before .before .before in
-    name-short (l .before .args .t3) (l .loop .i) _ (omega arith) (omega arith) (l .before .pre .3)
-
 mul-e : tie.Need-mul-e Inv-loop μ-loop
-mul-e c = omega (arith, free (c .before .before .before))
+mul-e c = omega (arith, free (c .before .before))
 
 element-set-from-e : tie.Need-element-set-from-e Inv-loop μ-loop
-element-set-from-e c = free (c .before .before .before)
+element-set-from-e c = free (c .before .before)
 
 add-r : tie.Need-add-r Inv-loop μ-loop
-add-r c = omega (arith, free (c .before .before .before))
+add-r c = omega (arith, free (c .before .before))
 
 add-i : tie.Need-add-i Inv-loop μ-loop
 add-i c = omega arith
@@ -78,8 +72,7 @@ loop-again c =
       omega arith,
       omega arith,
       ⊎-elim
-          (λ w. tailed-next v (omega arith) (omega arith) (omega arith) _ (not-true _ (w .0 .taken)) _ (w .3 .result)
-          (w .3 .ensures) (w .4))
+          (λ w. tailed-next v (omega arith) (omega arith) (omega arith) _ (not-true _ (w .0 .taken)) _ (w .3))
           (λ w. tailed-passed v (omega arith) (omega arith) (omega arith) _ (not-false _ (w .0 .left)) (w .1))
           (c .if1 .came),
     )
@@ -89,5 +82,5 @@ returns c = tailed-end (c .before .loop .inv .4) (omega arith)
 
 pub with-tail-spec : {M : Type 1} → statement M
 with-tail-spec =
-    tie.close (tie.spec Inv-loop μ-loop cast-n loop-holds element-copy-out-if1 mul-w element-copy-out-w clean-requires
+    tie.close (tie.spec Inv-loop μ-loop cast-n loop-holds element-copy-out-if1 mul-w element-copy-out-w
     mul-e element-set-from-e add-r add-i loop-less loop-again returns)

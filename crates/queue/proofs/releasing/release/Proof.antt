@@ -11,8 +11,8 @@ use Rattle.lists.specs.Arrays.{mapped-length}
 use Rattle.lists.specs.Packed.{Swept, swept-start, swept-kept, swept-passed}
 use Rattle.kinds.specs.Limits.{mostEntries, longestList}
 use Rattle.kinds.specs.declared.names.Slot.{Slot}
-use Rattle.kinds.specs.declared.names.NameList.{NameList}
-use Rattle.names.specs.Named.{namesIn}
+use Rattle.kinds.specs.declared.names.PointedList.{PointedList}
+use Rattle.names.specs.Pointers.{pointedIn}
 use Rattle.rules.specs.Names.{namesOf}
 use Rattle.rules.specs.Control.{Entry, isForOne}
 use Rattle.queue.specs.Queues.{entryOf, rowsOf}
@@ -22,8 +22,8 @@ use Rattle.queue.proofs.releasing.release.Statement.{statement}
 use Rattle.queue.proofs.releasing.release.Tie as tie
 
 -- what stays
-abbrev stays : ℕ → NameList → Entry → Bool
-stays t l e = not (isForOne t (namesOf (namesIn l)) e)
+abbrev stays : ℕ → PointedList → Entry → Bool
+stays t l e = not (isForOne t (namesOf (pointedIn l)) e)
 
 abbrev Inv-loop2 : tie.InvT-loop2
 Inv-loop2 c q l n k r i x a mine found₀ j₀ found j =
@@ -70,27 +70,24 @@ mul-w c = let h = look-on (c .before .loop2 .inv .3) (c .loop2-test .taken) in o
 element-copy-out-w : tie.Need-element-copy-out-w Inv-loop2 μ-loop2 Inv-loop μ-loop
 element-copy-out-w c = let h = look-on (c .before .loop2 .inv .3) (c .loop2-test .taken) in omega arith
 
-same-name-requires : tie.Need-same-name-requires Inv-loop2 μ-loop2 Inv-loop μ-loop
-same-name-requires c κs = search needs
-
 add-j : tie.Need-add-j Inv-loop2 μ-loop2 Inv-loop μ-loop
 add-j c =
-    let t = c .before .before .before in
+    let t = c .before .before .before .before in
     let h = look-on (t .before .loop2 .inv .3) (t .loop2-test .taken) in
     omega arith
 
 loop2-less : tie.Need-loop2-less Inv-loop2 μ-loop2 Inv-loop μ-loop
 loop2-less c =
-    let t = c .before .before .before in
+    let t = c .before .before .before .before in
     let h = look-on (t .before .loop2 .inv .3) (t .loop2-test .taken) in
     omega arith
 
 loop2-again : tie.Need-loop2-again Inv-loop2 μ-loop2 Inv-loop μ-loop
 loop2-again c =
-    let t = c .before .before .before in
+    let t = c .before .before .before .before in
     let v = t .before .loop2 .inv .3 in
     let h = look-on v (t .loop2-test .taken) in
-    let e = look-next (c .same-name .result) _ v (t .loop2-test .taken) (omega arith) (c .same-name .ensures) in
+    let e = look-next _ v (t .loop2-test .taken) (omega arith) in
     (omega arith, omega arith, omega arith, e)
 
 mul-x-2 : tie.Need-mul-x-2 Inv-loop2 μ-loop2 Inv-loop μ-loop
@@ -128,10 +125,10 @@ returns c =
     let f = stays (a .c .0) (a .t3) in
     let e : l .i ≡ a .t1 .count = omega arith in
     l .inv .4 .so-far ∙ ap (λ (k : ℕ). rowsOf (keep (λ (s : Slot). f (entryOf s)) (take k (a .t1 .slots)))) e
-    ∙ swept-rows f (a .t1) (c .before .before .before .pre .0) (l .inv .2)
+    ∙ swept-rows f (a .t1)
 
 pub release-spec : {M : Type 1} → statement M
 release-spec =
     tie.close (tie.spec Inv-loop2 μ-loop2 Inv-loop μ-loop cast-k empty-requires loop-holds mul-x element-copy-out-x
-    loop2-holds mul-w element-copy-out-w same-name-requires add-j loop2-less loop2-again mul-x-2 element-set-from-x
+    loop2-holds mul-w element-copy-out-w add-j loop2-less loop2-again mul-x-2 element-set-from-x
     add-r add-i loop-less loop-again returns)

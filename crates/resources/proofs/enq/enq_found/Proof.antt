@@ -8,12 +8,13 @@ use lib.Seq.{length-take-le}
 use borrow.Author.Needs.{needs}
 use Rattle.lists.specs.Arrays.{mapped-length}
 use Rattle.kinds.specs.Limits.{mostEntries, longestList}
-use Rattle.names.specs.Named.{namesIn}
-use Rattle.rules.specs.Enq.{enqVerdict}
+use Rattle.names.specs.Pointers.{pointedIn}
+use Rattle.names.proofs.Listed.{good-count}
+use Rattle.laws.specs.InRange.{enq-names}
 use Rattle.queue.specs.Queues.{entryOf, entriesIn}
 use Rattle.queue.proofs.Flagged.{asks-length}
 use Rattle.resources.specs.Looking.{enqAsked, enqLooks}
-use Rattle.resources.proofs.Judged.{go-is, found-stops, found-goes, enqRest, enq-few, weighed-is}
+use Rattle.resources.proofs.Judged.{go-is, found-stops, found-goes, enqRest, enq-parts, weighed-is}
 use Rattle.resources.proofs.enq.enq_found.Statement.{statement}
 use Rattle.resources.proofs.enq.enq_found.Tie as tie
 
@@ -26,14 +27,11 @@ counted c =
 long : (c : tie.Start) → length (c .args .l .names) ≡ longestList
 long c = search (needs, mapped-length)
 
-few : (c : tie.Else1) → c .before .before .before .args .l .count ≤ longestList
-few c =
-    let g = c .before in
-    let a = g .before .before .args in
-    enq-few (a .ret) (a .l) (a .room) _ (g .before .enq-asked .ensures) (go-is _ _ (g .goes-on .ensures) (c .if1 .left))
+few : (c : tie.Start) → c .args .l .count ≤ longestList
+few c = good-count _ (enq-names (c .args .ret) _ (c .pre .1))
 
 enq-asked-requires : tie.Need-enq-asked-requires
-enq-asked-requires c κs = search needs
+enq-asked-requires c κs = few c
 
 goes-on-requires : tie.Need-goes-on-requires
 goes-on-requires c κs = search needs
@@ -42,34 +40,38 @@ unlooked-requires : tie.Need-unlooked-requires
 unlooked-requires c κs = search needs
 
 returns : tie.Need-returns
-unfolding enqVerdict
 returns c =
     let g = c .before .before in
-    let a = g .before .before .args in
-    found-stops (enqAsked (a .ret) (namesIn (a .l)) (a .room))
-    (enqRest (entriesIn (a .q)) (a .caller .0) (a .ret) (namesIn (a .l)))
-    (enqLooks (a .ret) (entriesIn (a .q)) (a .caller .0) (namesIn (a .l))) _ _ _ (g .before .enq-asked .ensures)
-    (g .goes-on .ensures) (c .before .if1 .taken) (c .unlooked .ensures)
+    let s = g .before .before in
+    let a = s .args in
+    found-stops (enqAsked (a .ret) (pointedIn (a .l)) (a .room))
+    (enqRest (entriesIn (a .q)) (a .caller .0) (a .ret) (pointedIn (a .l)))
+    (enqLooks (a .ret) (entriesIn (a .q)) (a .caller .0) (pointedIn (a .l))) _
+    (enq-parts (entriesIn (a .q)) (a .caller) (a .ret) (a .l) (a .room) (s .pre .1)) _ _ _
+    (g .before .enq-asked .ensures) (g .goes-on .ensures) (c .before .if1 .taken) (c .unlooked .ensures)
 
 enq-looks-requires : tie.Need-enq-looks-requires
-enq-looks-requires c κs = (c .before .before .before .pre, few c)
+enq-looks-requires c κs =
+    let s = c .before .before .before in (s .pre .0, few s)
 
 enq-weighed-requires : tie.Need-enq-weighed-requires
-enq-weighed-requires c κs = (few (c .before), c .before .before .before .before .pre)
+enq-weighed-requires c κs =
+    let s = c .before .before .before .before in (few s, s .pre .0)
 
 returns-2 : tie.Need-returns-2
-unfolding enqVerdict
 returns-2 c =
     let e = c .before .before in
     let g = e .before in
     let s = g .before .before in
     let a = s .args in
-    let w = weighed-is (a .ret) (entriesIn (a .q)) (a .caller .0) (namesIn (a .l)) _ _ _ (c .before .enq-looks .ensures)
-    (counted s) (sym (asks-length (a .l) (omega (arith, few e, long s)))) in
-    found-goes (enqAsked (a .ret) (namesIn (a .l)) (a .room))
-    (enqRest (entriesIn (a .q)) (a .caller .0) (a .ret) (namesIn (a .l)))
-    (enqLooks (a .ret) (entriesIn (a .q)) (a .caller .0) (namesIn (a .l))) _ _ (g .before .enq-asked .ensures)
-    (go-is _ _ (g .goes-on .ensures) (e .if1 .left)) (c .enq-weighed .ensures ∙ w) (c .before .enq-looks .ensures)
+    let k = c .before .enq-looks .ensures in
+    let w = weighed-is (a .ret) (entriesIn (a .q)) (a .caller .0) (pointedIn (a .l)) _ _ _ k (counted s)
+    (sym (asks-length (a .l) (omega (arith, few s, long s)))) in
+    found-goes (enqAsked (a .ret) (pointedIn (a .l)) (a .room))
+    (enqRest (entriesIn (a .q)) (a .caller .0) (a .ret) (pointedIn (a .l)))
+    (enqLooks (a .ret) (entriesIn (a .q)) (a .caller .0) (pointedIn (a .l))) _
+    (enq-parts (entriesIn (a .q)) (a .caller) (a .ret) (a .l) (a .room) (s .pre .1)) _ _
+    (g .before .enq-asked .ensures) (go-is _ _ (g .goes-on .ensures) (e .if1 .left)) (c .enq-weighed .ensures ∙ w) k
 
 pub enq-found-spec : {M : Type 1} → statement M
 enq-found-spec =

@@ -2,7 +2,7 @@
 use mathlib.Core.Path.{refl}
 use borrow.Author.Needs.{needs}
 use Rattle.lists.specs.Pick.{pick, test-held, test-failed}
-use Rattle.names.proofs.Listed.{good-count, good-legal}
+use Rattle.names.proofs.Listed.{good-count}
 use Rattle.resources.specs.Serving.{queueLeft}
 use Rattle.resources.proofs.Changes.{left-told, left-room}
 use Rattle.resources.proofs.enq.queue_left.Statement.{statement}
@@ -16,7 +16,7 @@ with-tail-requires c κs =
     let p = c .before .before .pre in
     let u = p .1 in
     let h = test-held _ _ (c .before .queues .ensures) (c .if1 .taken) in
-    (p .0, good-count _ (u .good), left-room u h _ (p .0) refl, good-legal _ (u .good))
+    (p .0, good-count _ (u .good), left-room u h _ (p .0) refl)
 
 returns : tie.Need-returns
 unfolding queueLeft pick

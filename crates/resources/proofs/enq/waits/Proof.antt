@@ -13,8 +13,8 @@ use Rattle.resources.specs.Serving.{callerWaits}
 use Rattle.resources.proofs.enq.waits.Statement.{statement}
 use Rattle.resources.proofs.enq.waits.Tie as tie
 
-within : (c : tie.Start) → c .args .names .count ≤ length (c .args .names .names)
-within c = let h : length (c .args .names .names) ≡ longestList = search (needs, mapped-length) in omega arith
+within : (c : tie.Start) → c .args .l .count ≤ length (c .args .l .names)
+within c = let h : length (c .args .l .names) ≡ longestList = search (needs, mapped-length) in omega arith
 
 asks-free-requires : tie.Need-asks-free-requires
 asks-free-requires c κs = search needs
@@ -39,7 +39,7 @@ returns-2 c =
     let v = c .before in
     let k = v .before .before in
     let s = k .before .before in
-    let f = flags-but _ (s .args .names) _ (v .available .ensures) (within s) (s .args .looks .has) in
+    let f = flags-but _ (s .args .l) _ (v .available .ensures) (within s) (s .args .looks .has) in
     rw (← k .before .asks-free .ensures, ← k .queues .ensures, v .before .if1 .left)
     (ap not (c .all-set-but .ensures ∙ f))
 

@@ -5,6 +5,7 @@ use mathlib.Core.List.{[], _∷_}
 use mathlib.Core.Logic.{⊎-elim}
 use native.Mathlib.Omega.{arith}
 use borrow.Author.Needs.{needs}
+use borrow.Author.Tests.{eq-eqb, ne-eqb}
 use lib.ListN.{length}
 use Rattle.lists.specs.Arrays.{mapped-length}
 use Rattle.kinds.specs.Limits.{mostEntries}
@@ -29,9 +30,6 @@ mul-x c = omega arith
 element-copy-out-x : tie.Need-element-copy-out-x Inv-loop μ-loop
 element-copy-out-x c = omega arith
 
-same-name-requires : tie.Need-same-name-requires Inv-loop μ-loop
-same-name-requires c κs = search needs
-
 owns-requires : tie.Need-owns-requires Inv-loop μ-loop
 owns-requires c κs = search needs
 
@@ -43,10 +41,9 @@ cast-with-two-2 c = search needs
 
 with-two-requires : tie.Need-with-two-requires Inv-loop μ-loop
 with-two-requires c κs =
-    let t = c .before .before in
-    let l = t .before .before .before .before .loop in
-    let w =
-    walk-room (l .inv .4) (omega arith) (omega arith) (omega arith) _ (t .same-name .ensures) (c .before .if1 .taken) in
+    let t = c .before in
+    let v = t .before .before .before .before .before .loop .inv .4 in
+    let w = walk-room v (omega arith) (omega arith) (omega arith) _ (eq-eqb _ _ (t .if1 .taken)) in
     search needs
 
 add-j : tie.Need-add-j Inv-loop μ-loop
@@ -58,12 +55,12 @@ loop-less c = omega arith
 loop-again : tie.Need-loop-again Inv-loop μ-loop
 loop-again c =
     let l = c .before .before .before .before .before .loop in
-    let t = c .before .same-name .ensures in
     let e =
     ⊎-elim
-    (λ w. walk-kept (l .inv .4) (omega arith) (omega arith) (omega arith) _ t (w .0 .taken) _
+    (λ w. walk-kept (l .inv .4) (omega arith) (omega arith) (omega arith) _ (eq-eqb _ _ (w .0 .taken)) _
     (w .3 ∙ w .2 .ensures ∙ ap (λ (n : ℕ). withItem (l .r) (l .j ∷ n ∷ [])) (owner-byte (w .1 .ensures))))
-    (λ w. walk-passed (l .inv .4) (omega arith) (omega arith) (omega arith) _ t (w .0 .left) _ (w .1)) (c .if1 .came) in
+    (λ w. walk-passed (l .inv .4) (omega arith) (omega arith) (omega arith) _ (ne-eqb _ _ (w .0 .left)) _ (w .1))
+    (c .if1 .came) in
     (omega arith, omega arith, omega arith, omega arith, e)
 
 returns : tie.Need-returns Inv-loop μ-loop
@@ -71,5 +68,5 @@ returns c = walk-end (c .before .loop .inv .4) (omega arith) (omega arith)
 
 pub with-queue-spec : {M : Type 1} → statement M
 with-queue-spec =
-    tie.close (tie.spec Inv-loop μ-loop loop-holds mul-x element-copy-out-x same-name-requires owns-requires
-    cast-with-two cast-with-two-2 with-two-requires add-j loop-less loop-again returns)
+    tie.close (tie.spec Inv-loop μ-loop loop-holds mul-x element-copy-out-x owns-requires cast-with-two
+    cast-with-two-2 with-two-requires add-j loop-less loop-again returns)

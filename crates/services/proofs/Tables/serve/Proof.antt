@@ -1,17 +1,13 @@
--- A shut gate refuses; behind an open one stands what the service's verdict comes to.
-use mathlib.Core.Path.{_≡_, sym, subst}
+-- Gates that are shut refuse; behind open ones the request is served, with names or without.
+use mathlib.Core.Path.{_≡_, sym, _∙_}
 use Rattle.kinds.specs.declared.replies.Gate.the-variants.{Open}
-use Rattle.services.specs.Serve.{Ends}
-use Rattle.services.proofs.Glue.{gate-opens, gate-behind, serve-shut, serve-open}
+use Rattle.services.proofs.Glue.{entry-admits, entry-shut, serve-open}
 use borrow.Author.Needs.{needs}
 use Rattle.services.proofs.Tables.serve.Statement.{statement}
 use Rattle.services.proofs.Tables.serve.Tie as tie
 
-caller-of-requires : tie.Need-caller-of-requires
-caller-of-requires c κs = search needs
-
-gate-requires : tie.Need-gate-requires
-gate-requires c κs = search needs
+entry-requires : tie.Need-entry-requires
+entry-requires c κs = search needs
 
 enum-known-why : tie.Need-enum-known-why
 enum-known-why c = search needs
@@ -22,38 +18,67 @@ answering-requires c κs = search needs
 enum-told : tie.Need-enum-told
 enum-told c = search needs
 
-served-requires : tie.Need-served-requires
-served-requires c κs =
-    let g = c .before .before .before in
-    let a = g .before .before .before .args in
-    let k : g .gate .result ≡ Open = search needs in
-    gate-behind (a .self .all) (a .request) _ _ (g .before .caller-of .ensures) (g .gate .ensures) k
+asks-names-requires : tie.Need-asks-names-requires
+asks-names-requires c κs = search needs
 
-returns : tie.Need-returns
-returns c =
-    let g = c .before .before .before .before in
-    let a = g .before .before .before .args in
-    serve-shut (a .self) (a .request) _ _ _ _ _ _ _ (g .before .caller-of .ensures) (g .gate .ensures)
-    (c .before .before .why .given .1) (c .answering .ensures)
-
-settled-requires : tie.Need-settled-requires
-settled-requires c κs =
-    let e = c .before .before .before .before .before .before .before .caller-of .ensures in
-    λ what h. subst (Ends _) (sym e) (c .before .before .served .ensures .ends what h)
+with-names-requires : tie.Need-with-names-requires
+with-names-requires c κs =
+    let k : (c .before .before .before .before .before .entry) .result ≡ Open = search needs in (
+      entry-admits ((c .before .before .before .before .before .before .before .before .before .before .before .args)
+          .t1) ((c .before .before .before .before .before .before .before .before .before .before .before .args)
+          .request) _ _ ((c .before .before .before .before .before .entry) .ensures) k,
+      sym
+          ((c .before .before .asks-names) .ensures) ∙ (c .before .if1) .taken,
+    )
 
 same-length : tie.Need-same-length
 same-length c = search needs
 
+returns : tie.Need-returns
+returns c =
+    let k : (c .before .before .before .before .before .before .before .before .entry) .result ≡ Open = search needs in
+    serve-open ((c .before .before .before .before .before .before .before .before .before .before .before .before
+    .before .before .args) .t1) ((c .before .before .before .before .before .before .before .before .before
+    .before .before .before .before .before .args) .request) _ _ _ _
+    (entry-admits ((c .before .before .before .before .before .before .before .before .before .before .before
+    .before .before .before .args) .t1) ((c .before .before .before .before .before .before .before .before
+    .before .before .before .before .before .before .args) .request) _ _
+    ((c .before .before .before .before .before .before .before .before .entry) .ensures) k)
+    ((c .before .before .with-names) .ensures)
+
+unnamed-requires : tie.Need-unnamed-requires
+unnamed-requires c κs =
+    let k : (c .before .before .before .before .before .entry) .result ≡ Open = search needs in (
+      entry-admits ((c .before .before .before .before .before .before .before .before .before .before .before .args)
+          .t1) ((c .before .before .before .before .before .before .before .before .before .before .before .args)
+          .request) _ _ ((c .before .before .before .before .before .entry) .ensures) k,
+      sym
+          ((c .before .before .asks-names) .ensures) ∙ (c .before .if1) .left,
+    )
+
 returns-2 : tie.Need-returns-2
 returns-2 c =
-    let g = c .before .before .before .before .before .before .before in
-    let a = g .before .before .before .args in
-    let k : g .gate .result ≡ Open = search needs in
-    serve-open (a .self) (a .request) _ _ _ _ _ _ _ (g .before .caller-of .ensures)
-    (gate-opens (a .self .all) _ _ (g .gate .ensures) k .0) (c .before .before .before .served .ensures)
-    (c .settled .ensures)
+    entry-shut ((c .before .before .before .before .before .before .before .before .before .before .args) .t1)
+    ((c .before .before .before .before .before .before .before .before .before .before .args) .request) _ _ _ _
+    _ _ ((c .before .before .before .before .entry) .ensures) ((c .before .before .why) .given .1)
+    ((c .answering) .ensures)
+
+same-length-2 : tie.Need-same-length-2
+same-length-2 c = search needs
+
+returns-3 : tie.Need-returns-3
+returns-3 c =
+    let k : (c .before .before .before .before .before .before .before .before .entry) .result ≡ Open = search needs in
+    serve-open ((c .before .before .before .before .before .before .before .before .before .before .before .before
+    .before .before .args) .t1) ((c .before .before .before .before .before .before .before .before .before
+    .before .before .before .before .before .args) .request) _ _ _ _
+    (entry-admits ((c .before .before .before .before .before .before .before .before .before .before .before
+    .before .before .before .args) .t1) ((c .before .before .before .before .before .before .before .before
+    .before .before .before .before .before .before .args) .request) _ _
+    ((c .before .before .before .before .before .before .before .before .entry) .ensures) k)
+    ((c .before .before .unnamed) .ensures)
 
 pub serve-spec : {M : Type 1} → statement M
 serve-spec =
-    tie.close (tie.spec caller-of-requires gate-requires enum-known-why answering-requires enum-told served-requires
-    settled-requires returns same-length returns-2)
+    tie.close (tie.spec entry-requires enum-known-why answering-requires enum-told asks-names-requires
+    with-names-requires same-length returns unnamed-requires returns-2 same-length-2 returns-3)

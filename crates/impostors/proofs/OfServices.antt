@@ -76,6 +76,7 @@ use Rattle.rules.specs.Fresh.{freshStep}
 use Rattle.rules.specs.Serve.{serviceOf}
 use Rattle.history.specs.Samples.{start, x, y}
 use Rattle.tables.specs.Tables.{putQueue, soundTables}
+use Rattle.tables.specs.Tables as all
 use Rattle.services.specs.Kept.{inTables, stepOf, tablesOf, soundb, answered, answeredWith, saidWith, servedBy}
 use Rattle.services.specs.declared.Tables.{Tables}
 use Rattle.services.specs.declared.Answer.{Answer}
@@ -98,7 +99,10 @@ use Rattle.services.proofs.Tables.stuck.Reads as stuck
 use Rattle.services.proofs.Tables.queues.Reads as queues
 use Rattle.lists.specs.Tables.{padded}
 use Rattle.laws.specs.NamesAfter.{entryNames}
-use Rattle.namearea.specs.Areas.{holds}
+use Rattle.laws.specs.RenamedSteps.{reStep}
+use Rattle.namearea.specs.Areas.{areaOf, holds}
+use Rattle.namearea.specs.Firsts.{isIn}
+use Rattle.namearea.specs.Naming.{pointTo}
 use Rattle.queue.specs.Queues.{zeroSlot}
 use Rattle.queue.specs.Pointing.{offsetsIn}
 use Rattle.rules.specs.Examples.{filled}
@@ -111,7 +115,7 @@ use Rattle.impostors.specs.Opened.{tables-open}
 use Rattle.impostors.specs.Wrong.{told-apart, RuledOut, wrong-at, RuledOutWith, wrong-with, Heeds, heeds}
 use Rattle.impostors.specs.Samples.{Asking, task, ecb, namesOf, ecbsOf, after, oneDaughter, twoGenerations}
 use Rattle.impostors.specs.Samples.{withEcb, daughterOwns, owned, awaited, sharesAndOwns, z, postedOnce, waitedOn}
-use Rattle.impostors.specs.Samples.{oneArea}
+use Rattle.impostors.specs.Samples.{oneArea, bothAsked}
 use Rattle.impostors.specs.Samples.{ringOfTwo, behindAnother, sharedAhead, ringOfLast}
 use Rattle.impostors.specs.Parts.{lent, address, lastBest, incomplete}
 use Rattle.impostors.specs.Impostors.{byService}
@@ -633,6 +637,36 @@ unfolding tables-open
 deq-refuses-a-system-name =
     wrong-with ([], tt) (tablesOf start, (task 1, (DeqHave, (namesOf (exc sysdsn ∷ []), (lent (238 ∷ []), tt))))) refl
     tt (λ o. eqb (o .outcome .number) 110) refl refl
+
+-- The names in the area, document 02 §5: what DEQ leaves is stored with other names there, or in another order.
+abbrev storedBy : List Resource → Step → Tables
+storedBy ns u = record { all = all.tablesOf (reStep (pointTo ns) u); names = areaOf ns }
+
+abbrev deqStoring : (List Resource → List Resource → List Resource) → Coded DeqRet → Answer × Coded DeqRet
+deqStoring names a =
+    let right = coding a (λ s area. deqOf s (a .1 .0) (a .1 .1 .0) (namesIn (a .1 .1 .1 .0)) area) in
+    let left = stepOf (right .0 .tables) in
+    let ns = names (entryNames (stepOf (a .0) .queue)) (entryNames (left .queue)) in
+    (record { tables = pick (soundb (a .0)) (storedBy ns left) (right .0 .tables); reply = right .0 .reply }, right .1)
+
+abbrev releasing : List Asking → ℕ → Coded DeqRet
+releasing run c = (tables run, (task c, (DeqNone, (namesOf (exc x ∷ []), (lent [], tt)))))
+
+-- names keep the order that they had: 2 releases x, which 4 waits for behind the first entry for y, and x stays in front
+pub deq-in-the-old-order : RuledOutWith (λ k. fits-Coded fits-DeqRet) deq.Pre deq.Post
+    (λ k a. deqStoring (λ before now. keep (λ n. isIn n now) before) a)
+unfolding tables-open
+deq-in-the-old-order =
+    wrong-with ([], tt) (releasing bothAsked 2) refl tt
+    (λ o. eqb (getD (o .outcome .tables .names .bytes) 0 0) (getD (x .major) 0 0)) refl refl
+
+-- a name stays to which no entry points: 1 releases x, and it stands there
+pub deq-keeps-a-name-without-entries : RuledOutWith (λ k. fits-Coded fits-DeqRet) deq.Pre deq.Post
+    (λ k a. deqStoring (λ before now. now ++ before) a)
+unfolding tables-open
+deq-keeps-a-name-without-entries =
+    wrong-with ([], tt) (releasing owned 1) refl tt
+    (λ o. eqb (getD (o .outcome .tables .names .bytes) 0 0) (getD (x .major) 0 0)) refl refl
 
 -- nobody is granted what was released: 2 waits on
 pub deq-grants-nothing : RuledOutWith (λ k. fits-Coded fits-DeqRet) deq.Pre deq.Post

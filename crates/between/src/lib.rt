@@ -1,4 +1,6 @@
 // What speaks of the tasks and one other table: whose entries, wait bits and areas they are.
+#![tactic(auto)]
+
 pub mod entries;
 pub mod entries_ending;
 pub mod owners;

@@ -12,7 +12,7 @@ use kinds::{Condition, EcbNumber, TaskNumber};
 use tasks::TaskTable;
 
 // The two tables that a post touches.
-#[derive(Drop)]
+#[derive(Clone, Copy)]
 pub struct Signals {
     pub ecbs: EcbTable,
     pub tasks: TaskTable,

@@ -1,5 +1,7 @@
 // The cases that document 01 has checked by hand, and those of document 02 §4, run: every request goes through `serve`,
 // and a line tells its answer. Besides, the parts of the tables are told that a case speaks of.
+#![tactic(auto)]
+
 mod ask;
 mod limits;
 mod pages;

@@ -17,7 +17,7 @@ const OTHER: u8 = 2;
 
 // The areas are spread over so many pages (0: they begin at the region's start), and each starts a step further into
 // its page than the one before it.
-#[derive(Drop)]
+#[derive(Clone, Copy)]
 pub(crate) struct Layout {
     pub(crate) pages: u32,
     pub(crate) step: u32,

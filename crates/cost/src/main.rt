@@ -5,6 +5,8 @@
 // - g: GETMAIN's body; l: its search alone; e: the search of every multiple of 8. Two words more tell by their first
 //   letters how many areas there are (1: one, 3: 32, any other: 127) and how they lie (p: packed, s: scattered,
 //   t: every page is taken, any other: the region is filled). `time target/bin/cost llllll m t` against `.. eee m t`.
+#![tactic(auto)]
+
 mod every;
 mod full;
 mod layouts;

@@ -9,7 +9,7 @@ use kinds::{Address, Area, MaybeAddress, Reply};
 use tables::AllTables;
 
 // What is repeated.
-#[derive(Drop)]
+#[derive(Clone, Copy)]
 pub(crate) enum Search {
     Body,
     Lowest,
@@ -17,7 +17,7 @@ pub(crate) enum Search {
 }
 
 // How many calls found an address, and what the last one found.
-#[derive(Drop)]
+#[derive(Clone, Copy)]
 pub(crate) struct Answers {
     pub(crate) found: u32,
     pub(crate) last: MaybeAddress,

@@ -1,4 +1,5 @@
 // The event control blocks: ECB n stands at place n.
+#![tactic(auto)]
 
 ghost use Rattle.std.specs.Prelude.{◌≡◌, map, ◌≤◌, set};
 ghost use Rattle.lists.specs.Lists.{every};
@@ -9,7 +10,7 @@ ghost use Rattle.ecbs.specs.Blocks.{ecb_table_of, no_events, tally_of};
 
 use kinds::{Ecb, EcbNumber, TaskNumber};
 
-#[derive(Drop)]
+#[derive(Clone, Copy)]
 pub struct EcbTable {
     pub ecbs: [Ecb; EcbNumber::PLACES],
 }
@@ -22,7 +23,7 @@ impl EcbTable {
 }
 
 // For each task number, 0 included, how many ECBs it waits on.
-#[derive(Drop)]
+#[derive(Clone, Copy)]
 pub struct Tally {
     pub ecbs: [u8; Tally::PLACES],
 }

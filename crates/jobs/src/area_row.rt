@@ -3,7 +3,7 @@ use crate::poke::AreaField;
 use crate::raw::WIDEST_BYTE;
 use kinds::{Address, Area, TaskNumber};
 
-#[derive(Drop)]
+#[derive(Clone, Copy)]
 pub(crate) struct RawArea {
     pub(crate) address: u32,
     pub(crate) length: u32,
@@ -12,7 +12,7 @@ pub(crate) struct RawArea {
 }
 
 // An area that the table can hold, or none.
-#[derive(Drop)]
+#[derive(Clone, Copy)]
 pub(crate) enum HeldArea {
     Held(Area),
     NotHeld,

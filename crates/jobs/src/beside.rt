@@ -4,21 +4,21 @@ use crate::{name, number, word};
 use kinds::{EcbList, EcbNumber, NameList, Wanted};
 
 // Whether all of the words are names, and as many of them as a request may have.
-#[derive(Drop)]
+#[derive(Clone, Copy)]
 pub(crate) struct Names {
     pub(crate) good: bool,
     pub(crate) list: NameList,
 }
 
 // Whether all of the words are numbers, and as many of them as a request may have.
-#[derive(Drop)]
+#[derive(Clone, Copy)]
 pub(crate) struct Ecbs {
     pub(crate) good: bool,
     pub(crate) list: EcbList,
 }
 
 // A word read as a name with its `S:` or `E:`.
-#[derive(Drop)]
+#[derive(Clone, Copy)]
 struct Read {
     good: bool,
     wanted: Wanted,

@@ -3,7 +3,7 @@ use crate::number;
 use crate::number::Number;
 
 // A word read as DPMOD. Where it is none, `good` is false and the rest says nothing.
-#[derive(Drop)]
+#[derive(Clone, Copy)]
 pub(crate) struct Dpmod {
     pub(crate) good: bool,
     pub(crate) value: i16,

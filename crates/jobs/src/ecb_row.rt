@@ -3,7 +3,7 @@ use crate::poke::EcbField;
 use crate::raw::{WIDEST_BYTE, WIDEST_FLAG, flag};
 use kinds::{Ecb, TaskNumber};
 
-#[derive(Drop)]
+#[derive(Clone, Copy)]
 pub(crate) struct RawEcb {
     pub(crate) wait: u32,
     pub(crate) complete: u32,
@@ -12,7 +12,7 @@ pub(crate) struct RawEcb {
 }
 
 // A block that the table can hold, or none.
-#[derive(Drop)]
+#[derive(Clone, Copy)]
 pub(crate) enum HeldEcb {
     Held(Ecb),
     NotHeld,

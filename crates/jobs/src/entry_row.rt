@@ -3,7 +3,7 @@ use crate::poke::EntryField;
 use crate::raw::{WIDEST_BYTE, WIDEST_FLAG, WIDEST_HALF, flag};
 use kinds::{NameOffset, Slot, TaskNumber};
 
-#[derive(Drop)]
+#[derive(Clone, Copy)]
 pub(crate) struct RawEntry {
     pub(crate) task: u32,
     pub(crate) excl: u32,
@@ -11,7 +11,7 @@ pub(crate) struct RawEntry {
 }
 
 // A place that the queue can hold, or none.
-#[derive(Drop)]
+#[derive(Clone, Copy)]
 pub(crate) enum HeldEntry {
     Held(Slot),
     NotHeld,

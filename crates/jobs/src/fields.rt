@@ -7,7 +7,7 @@ use crate::sizes::MOST_FIELDS;
 use kinds::TaskNumber;
 
 // Where a word is no number, `good` is false and the rest says nothing.
-#[derive(Drop)]
+#[derive(Clone, Copy)]
 pub(crate) struct Fields {
     pub(crate) good: bool,
     pub(crate) caller: TaskNumber,

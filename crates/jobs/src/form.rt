@@ -7,7 +7,7 @@ use kinds::{DeqRet, Request, Ret, TaskNumber};
 
 // A list is left to be read from `at` on. In an ENQ each name has a mark. What is not held is a poke of a field that
 // no table has.
-#[derive(Drop)]
+#[derive(Clone, Copy)]
 pub(crate) enum Form {
     Nothing,
     Unreadable,

@@ -8,7 +8,7 @@ use crate::sizes::LONGEST_LINE;
 
 // The block has `end` bytes of the input. The line is from..to, and what comes after it starts at `next`. The input is
 // over where it has no line any more, or where a read failed: the line is then empty.
-#[derive(Drop)]
+#[derive(Clone, Copy)]
 pub(crate) struct Span {
     pub(crate) over: bool,
     pub(crate) failed: bool,
@@ -19,7 +19,7 @@ pub(crate) struct Span {
 }
 
 // What one read brought: no bytes at the end of the input, or where it failed.
-#[derive(Drop)]
+#[derive(Clone, Copy)]
 struct Got {
     count: usize,
     failed: bool,

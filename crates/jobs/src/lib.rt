@@ -1,5 +1,7 @@
 // Job scripts: requests as lines of text, answered line by line.
 // Reading decides nothing about a request; `services` answers it.
+#![tactic(auto)]
+
 mod area_row;
 mod beside;
 mod dpmod;

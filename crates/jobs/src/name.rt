@@ -8,7 +8,7 @@ use crate::{hex, number, word};
 use kinds::Name;
 
 // A word read as a name. Where it is none, `good` is false and the rest says nothing.
-#[derive(Drop)]
+#[derive(Clone, Copy)]
 pub(crate) struct Named {
     pub(crate) good: bool,
     pub(crate) name: Name,
@@ -16,21 +16,21 @@ pub(crate) struct Named {
 }
 
 // A major part, if its digits are digits.
-#[derive(Drop)]
+#[derive(Clone, Copy)]
 struct Major {
     good: bool,
     bytes: [u8; Name::MAJOR],
 }
 
 // The bytes of a minor part that a name keeps, if all of its digits are digits.
-#[derive(Drop)]
+#[derive(Clone, Copy)]
 struct Minor {
     good: bool,
     bytes: [u8; Name::LONGEST],
 }
 
 // A minor part's length, if it is one.
-#[derive(Drop)]
+#[derive(Clone, Copy)]
 struct Length {
     good: bool,
     value: u16,

@@ -6,7 +6,7 @@ use crate::sizes::{HIGHEST_NUMBER, MOST_DIGITS};
 use crate::word;
 
 // A word read as a number. Where it is none, `good` is false and the rest says nothing.
-#[derive(Drop)]
+#[derive(Clone, Copy)]
 pub(crate) struct Number {
     pub(crate) good: bool,
     pub(crate) value: u32,

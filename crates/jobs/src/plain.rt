@@ -8,7 +8,7 @@ use crate::{dpmod, fields, form, keys, number, word};
 use kinds::{Address, EcbNumber, MaybeEcb, Request, TaskNumber};
 
 // An ECB or `-`. Where it is neither, `good` is false and the rest says nothing.
-#[derive(Drop)]
+#[derive(Clone, Copy)]
 struct Attached {
     good: bool,
     ecb: MaybeEcb,

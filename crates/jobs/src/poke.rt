@@ -1,5 +1,5 @@
 // A poke: one raw field of the tables is overwritten, or bytes of the name area.
-#[derive(Drop)]
+#[derive(Clone, Copy)]
 pub(crate) enum TaskField {
     State,
     Mother,
@@ -11,14 +11,14 @@ pub(crate) enum TaskField {
     Need,
 }
 
-#[derive(Drop)]
+#[derive(Clone, Copy)]
 pub(crate) enum EntryField {
     Task,
     Excl,
     Name,
 }
 
-#[derive(Drop)]
+#[derive(Clone, Copy)]
 pub(crate) enum EcbField {
     Wait,
     Complete,
@@ -26,7 +26,7 @@ pub(crate) enum EcbField {
     Waiter,
 }
 
-#[derive(Drop)]
+#[derive(Clone, Copy)]
 pub(crate) enum AreaField {
     Address,
     Length,
@@ -36,7 +36,7 @@ pub(crate) enum AreaField {
 
 // The two fields of the step, or one of a place. `at` is the place in its table: that of task n is n - 1. Or `count`
 // bytes of the name area from `at` on: their digits end the line, and are read there again when they are written.
-#[derive(Drop)]
+#[derive(Clone, Copy)]
 pub(crate) enum Poke {
     Over(u32),
     Code(u32),

@@ -17,7 +17,7 @@ use storage::Storage;
 use tables::AllTables;
 
 // The tables as they are left, and what is said of it. Where they cannot hold what is poked they are as they were.
-#[derive(Drop)]
+#[derive(Clone, Copy)]
 pub(crate) struct Left {
     pub(crate) all: AllTables,
     pub(crate) said: Said,

@@ -4,7 +4,7 @@ ghost use Rattle.jobs.specs.Places.{Kept};
 use crate::sizes::BLOCK;
 use crate::text;
 
-#[derive(Drop)]
+#[derive(Clone, Copy)]
 pub(crate) enum Said {
     Nothing,
     Unreadable,

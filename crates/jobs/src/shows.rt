@@ -5,13 +5,13 @@ use crate::sizes::BLOCK;
 use crate::{listing, reports};
 use services::Tables;
 
-#[derive(Drop)]
+#[derive(Clone, Copy)]
 pub(crate) enum Report {
     Stuck,
     Queues,
 }
 
-#[derive(Drop)]
+#[derive(Clone, Copy)]
 pub(crate) enum Shows {
     Tables,
     // The list area has room for so many items.

@@ -3,7 +3,7 @@ use crate::poke::TaskField;
 use crate::raw::{WIDEST_BYTE, WIDEST_FLAG, flag};
 use kinds::{Condition, EcbNumber, MaybeEcb, Task, TaskNumber};
 
-#[derive(Drop)]
+#[derive(Clone, Copy)]
 pub(crate) struct RawTask {
     pub(crate) state: u32,
     pub(crate) mother: u32,
@@ -16,19 +16,19 @@ pub(crate) struct RawTask {
 }
 
 // A place that the table can hold, or none.
-#[derive(Drop)]
+#[derive(Clone, Copy)]
 pub(crate) enum HeldTask {
     Held(Task),
     NotHeld,
 }
 
-#[derive(Drop)]
+#[derive(Clone, Copy)]
 enum HeldCondition {
     Held(Condition),
     NotHeld,
 }
 
-#[derive(Drop)]
+#[derive(Clone, Copy)]
 enum HeldOwnEcb {
     Held(MaybeEcb),
     NotHeld,

@@ -13,7 +13,7 @@ use kinds::{EcbList, NameList, Request};
 
 // Where nothing is asked of the tables there is only something to say. A fresh start takes none of them: it stands
 // apart from a poke, which would else copy them once more.
-#[derive(Drop)]
+#[derive(Clone, Copy)]
 pub(crate) enum What {
     Say(Said),
     Request(Request),
@@ -23,7 +23,7 @@ pub(crate) enum What {
 }
 
 // The lists of a request, and the length of its codes area.
-#[derive(Drop)]
+#[derive(Clone, Copy)]
 pub(crate) struct Asked {
     pub(crate) what: What,
     pub(crate) names: NameList,

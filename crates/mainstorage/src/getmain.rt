@@ -14,7 +14,7 @@ use tables::AllTables;
 use tables::made::{Made, goes, stays};
 
 // The verdict on a request, and the place that the one search found for it.
-#[derive(Drop)]
+#[derive(Clone, Copy)]
 pub struct Found {
     pub verdict: Verdict,
     pub place: MaybeAddress,

@@ -1,4 +1,6 @@
 // GETMAIN and FREEMAIN: main storage, and the search for room in it.
+#![tactic(auto)]
+
 pub mod asked;
 pub mod freemain;
 pub mod getmain;

@@ -4,7 +4,7 @@ ghost use Rattle.namearea.specs.Areas.{area_of};
 
 // The names in use, each once, packed, in the order of first entries: 8 bytes, a length byte, the minor part. Behind
 // the last all is zero.
-#[derive(Drop)]
+#[derive(Clone, Copy)]
 pub struct NameArea {
     pub bytes: [u8; NameArea::BYTES],
 }

@@ -1,4 +1,6 @@
 // The name area: each name in use once, packed, in the order of first entries; entries point to it.
+#![tactic(auto)]
+
 pub mod append;
 pub mod area;
 pub mod lawful;

@@ -11,7 +11,7 @@ ghost use Rattle.namearea.specs.Pointing.{InUse, shown_by, place_in, at_shows, s
 use kinds::{Name, NameList, NameOffset, Pointed, PointedList};
 
 // The offsets of a list's names. The names in use end at `from`, and with the list's at `end`.
-#[derive(Drop)]
+#[derive(Clone, Copy)]
 pub struct Points {
     pub list: PointedList,
     pub from: usize,
@@ -19,14 +19,14 @@ pub struct Points {
 }
 
 // Where a name lies among those in use, or else where these end.
-#[derive(Drop)]
+#[derive(Clone, Copy)]
 struct Place {
     at: usize,
     there: bool,
 }
 
 // Where a name of a list lies, and where the names end with it.
-#[derive(Drop)]
+#[derive(Clone, Copy)]
 struct Stand {
     at: usize,
     end: usize,

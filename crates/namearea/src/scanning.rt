@@ -10,7 +10,7 @@ ghost use Rattle.namearea.specs.Scanning.{names_of, fits_at, scanned};
 ghost use Rattle.namearea.specs.Steps.{Walked, next_end};
 
 // Where the names end after an entry that passes; no place if it fails.
-#[derive(Drop)]
+#[derive(Clone, Copy)]
 enum Next {
     End(usize),
     Bad,

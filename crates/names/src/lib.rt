@@ -1,4 +1,6 @@
 // Names as bytes: what a name's struct shows, and the tests of it.
+#![tactic(auto)]
+
 pub mod list;
 
 ghost use Rattle.std.specs.Prelude.{◌≡◌, min};

@@ -12,7 +12,7 @@ use crate::Queue;
 use crate::looks::Flags;
 use kinds::{NameList, NameOffset, PointedList, Slot, TaskNumber};
 
-#[derive(Drop)]
+#[derive(Clone, Copy)]
 pub struct Lead {
     // No entry for the name was read so far.
     pub first: bool,

@@ -1,4 +1,6 @@
 // The resource queue: entries in the order of request, packed.
+#![tactic(auto)]
+
 pub mod lead;
 pub mod looks;
 pub mod marks;
@@ -17,7 +19,7 @@ use kinds::{NameOffset, Slot, TaskNumber};
 use marks::marked;
 pub use marks::{Marks, all_marks, no_marks};
 
-#[derive(Drop)]
+#[derive(Clone, Copy)]
 pub struct Queue {
     pub slots: [Slot; Slot::PLACES],
     pub count: usize,

@@ -12,7 +12,7 @@ use crate::Queue;
 use kinds::{NameList, NameOffset, PointedList, Slot, TaskNumber};
 
 // One flag for each name beside a request, false past the count.
-#[derive(Drop)]
+#[derive(Clone, Copy)]
 pub struct Flags {
     pub of: [bool; NameList::MOST],
 }

@@ -5,7 +5,7 @@ ghost use Rattle.queue.specs.Marking.{all_marks, no_marks, mark_at, with_mark};
 use kinds::TaskNumber;
 
 // For each task number, 0 to the highest, whether the task is marked.
-#[derive(Drop)]
+#[derive(Clone, Copy)]
 pub struct Marks {
     pub tasks: [bool; Marks::PLACES],
 }

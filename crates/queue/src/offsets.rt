@@ -8,7 +8,7 @@ ghost use Rattle.queue.specs.Pointing.{offsets_at, offsets_in, pointed_by};
 use crate::Queue;
 use kinds::{NameOffset, Slot};
 
-#[derive(Drop)]
+#[derive(Clone, Copy)]
 pub struct Offsets {
     pub of: [u16; Slot::PLACES],
 }

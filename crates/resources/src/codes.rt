@@ -9,7 +9,7 @@ ghost use Rattle.resources.specs.Coding.{code_by};
 use kinds::{DeqRet, NameList, Ret};
 
 // Zero past the count.
-#[derive(Drop)]
+#[derive(Clone, Copy)]
 pub struct Codes {
     pub bytes: [u8; NameList::MOST],
 }

@@ -1,4 +1,6 @@
 // ENQ and DEQ: their tests, and what they make of the queue and the tasks.
+#![tactic(auto)]
+
 pub mod codes;
 pub mod deq;
 pub mod enq;
@@ -19,7 +21,7 @@ use kinds::{NameList, PointedList, Reply, Verdict};
 use queue::looks::Flags;
 
 // The verdict on a request, and what was looked for before it was given.
-#[derive(Drop)]
+#[derive(Clone, Copy)]
 pub struct Found {
     pub verdict: Verdict,
     pub looks: Looks,

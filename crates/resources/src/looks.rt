@@ -12,7 +12,7 @@ use queue::Queue;
 use queue::lead::sole;
 use queue::looks::{Flags, available, entered};
 
-#[derive(Drop)]
+#[derive(Clone, Copy)]
 pub struct Looks {
     // The caller has an entry.
     pub has: Flags,

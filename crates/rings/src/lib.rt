@@ -1,4 +1,6 @@
 // Rings of tasks that wait for each other, and the reports of document 02 §1.
+#![tactic(auto)]
+
 mod held;
 mod listing;
 pub mod reports;

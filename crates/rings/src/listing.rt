@@ -7,7 +7,7 @@ ghost use Rattle.rings.specs.Listings.{report_reply, report_written};
 use kinds::{Refusal, Reply, Slot};
 
 // The bytes of the items one after the other, and zero past the count.
-#[derive(Drop)]
+#[derive(Clone, Copy)]
 pub struct Listing {
     pub bytes: [u8; Listing::BYTES],
     pub count: usize,

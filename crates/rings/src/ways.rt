@@ -10,7 +10,7 @@ use queue::{Marks, Queue};
 
 // For each two task numbers, 0 to the highest, whether a way leads from the first to the second. A row has those from
 // one number.
-#[derive(Drop)]
+#[derive(Clone, Copy)]
 pub struct Ways {
     pub of: [bool; Ways::PLACES],
 }

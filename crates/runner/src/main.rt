@@ -1,5 +1,7 @@
 // The script on standard input is answered on standard output, to its end. A program has no exit status of its own:
 // given an argument it tells on descriptor 3 whether all went well, by a 1 or a 0.
+#![tactic(auto)]
+
 const TOLD: i32 = 3;
 
 fn main() {

@@ -1,4 +1,6 @@
 // The tables of a step with the services as methods, a file each; the one gate, and what a verdict comes to.
+#![tactic(auto)]
+
 pub mod abend;
 pub mod attach;
 pub mod clear;
@@ -30,27 +32,27 @@ use tables::AllTables;
 use tables::made::Made;
 
 // All tables, in which an entry points to its name, and the names that are in use.
-#[derive(Drop)]
+#[derive(Clone, Copy)]
 pub struct Tables {
     pub all: AllTables,
     pub names: NameArea,
 }
 
-#[derive(Drop)]
+#[derive(Clone, Copy)]
 pub struct Answer {
     pub tables: Tables,
     pub reply: Reply,
 }
 
 // What a verdict comes to, before the names that it leaves are packed.
-#[derive(Drop)]
+#[derive(Clone, Copy)]
 struct Upshot {
     tables: AllTables,
     reply: Reply,
 }
 
 // Whom a request names: the calling task, or nobody, as DISPATCH and the reports.
-#[derive(Drop)]
+#[derive(Clone, Copy)]
 pub(crate) enum Caller {
     Nobody,
     Named(TaskNumber),

@@ -1,4 +1,6 @@
 // The storage table: areas by rising address, packed.
+#![tactic(auto)]
+
 pub mod areas;
 
 ghost use Rattle.std.specs.Prelude.{◌≡◌, not, ◌&&◌, [], ◌+◌, ◌-◌, ◌≤◌, ◌<◌};
@@ -13,7 +15,7 @@ ghost use Rattle.storage.specs.Changes.{appended, extended, rank_in, inserted_at
 
 use kinds::Area;
 
-#[derive(Drop)]
+#[derive(Clone, Copy)]
 pub struct Storage {
     pub areas: [Area; Area::PLACES],
     pub count: usize,

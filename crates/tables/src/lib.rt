@@ -1,5 +1,7 @@
 // All tables of a step, in one struct. What has to name each of them stands in this room: the struct, one setter for
 // each table, the empty step, the sound test, the ending.
+#![tactic(auto)]
+
 pub mod ending;
 pub mod made;
 pub mod sound;
@@ -13,7 +15,7 @@ use queue::Queue;
 use storage::Storage;
 use tasks::TaskTable;
 
-#[derive(Drop)]
+#[derive(Clone, Copy)]
 pub struct AllTables {
     pub over: bool,
     pub code: u16,

@@ -7,7 +7,7 @@ use crate::AllTables;
 use kinds::{Reply, Verdict};
 
 // The tables change only where the verdict is to go on, and the reply counts only there.
-#[derive(Drop)]
+#[derive(Clone, Copy)]
 pub struct Made {
     pub verdict: Verdict,
     pub reply: Reply,

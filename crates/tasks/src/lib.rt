@@ -1,4 +1,6 @@
 // The task table: task n stands at place n - 1.
+#![tactic(auto)]
+
 pub mod choice;
 pub mod direct;
 pub mod ending;
@@ -12,7 +14,7 @@ ghost use Rattle.tasks.specs.TaskTables.{task_table_of, nobody};
 
 use kinds::{Task, TaskNumber};
 
-#[derive(Drop)]
+#[derive(Clone, Copy)]
 pub struct TaskTable {
     pub places: [Task; TaskNumber::PLACES],
 }

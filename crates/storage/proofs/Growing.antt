@@ -26,9 +26,9 @@ pub then_more : {r q : Storage} (l m : List Area) → length l + length m ≤ mo
     → q ≡ extended r m
     → q ≡ stored_areas (l ++ m)
 unfolding extended
-then_more l [] h e f = f ∙ e ∙ ap stored_areas (sym (append-nil l))
-then_more l (a ∷ m) h e f =
-    then_more (l ++ (a ∷ [])) m (omega (arith, length-append l (a ∷ []))) (grown l a (omega arith) e refl) f
+then_more {r} l [] h e f = f ∙ e ∙ ap stored_areas (sym (append-nil l))
+then_more {r} l (a ∷ m) h e f =
+    then_more {r = appended r a} (l ++ (a ∷ [])) m (omega (arith, length-append l (a ∷ []))) (grown l a (omega arith) e refl) f
     ∙ ap stored_areas (append_snoc l a m)
 
 -- a loop that appends the places i to n - 1 of an array

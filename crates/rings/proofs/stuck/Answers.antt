@@ -16,7 +16,7 @@ loop-t-init c = (omega arith, record { long = search rules; each = λ i k. absur
 pub loop-t-preserved : goal.loop-t-preserved
 loop-t-preserved c =
     let l = c.loop-t in
-    (omega arith, marked_next _ l.t l.r-1 _ (omega arith) refl l.invariant.1)
+    (omega arith, marked_next _ l.t l.r _ (omega arith) refl l.invariant.1)
 
 pub returns : goal.returns
 returns c =

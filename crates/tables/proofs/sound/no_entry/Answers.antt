@@ -7,14 +7,10 @@ use Rattle.lists.specs.Arrays.{mapped_length, none_taken}
 use Rattle.kinds.specs.Limits.{most_entries}
 use Rattle.queue.specs.Queues.{entry_of}
 use borrow.Author.Rules.{rules}
-use Rattle.tables.proofs.sound.no_entry.Statement.{statement}
-use Rattle.tables.proofs.sound.no_entry.Tie as tie
+use Rattle.tables.proofs.sound.no_entry.Goals as goal
 
-returns : tie.Need-returns
+pub returns : goal.returns
 returns c =
-    let q = c.before.args.q in
+    let q = c.args.q in
     let h : length q.slots ≡ most_entries = search (rules, mapped_length) in
     none_taken q.count (map entry_of q.slots) (omega (arith, length-map q.slots entry_of))
-
-pub no-entry-spec : {M : Type 1} → statement M
-no-entry-spec = tie.close (tie.spec returns)

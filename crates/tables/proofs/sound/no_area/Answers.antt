@@ -5,14 +5,10 @@ use lib.ListN.{length}
 use Rattle.lists.specs.Arrays.{mapped_length, none_taken}
 use Rattle.kinds.specs.Limits.{most_areas}
 use borrow.Author.Rules.{rules}
-use Rattle.tables.proofs.sound.no_area.Statement.{statement}
-use Rattle.tables.proofs.sound.no_area.Tie as tie
+use Rattle.tables.proofs.sound.no_area.Goals as goal
 
-returns : tie.Need-returns
+pub returns : goal.returns
 returns c =
-    let s = c.before.args.s in
+    let s = c.args.s in
     let h : length s.areas ≡ most_areas = search (rules, mapped_length) in
     none_taken s.count s.areas (omega arith)
-
-pub no-area-spec : {M : Type 1} → statement M
-no-area-spec = tie.close (tie.spec returns)

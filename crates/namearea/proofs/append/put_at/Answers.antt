@@ -5,4 +5,4 @@ use Rattle.namearea.proofs.append.put_at.Goals as goal
 pub returns : goal.returns
 returns c =
     let a = c.args in
-    put_mid a.at a.bytes-1.now a.part.now c.put.new.0 c.put.ensures
+    put_mid a.at a.bytes.now a.part.now c.put.new.to c.put.ensures

@@ -35,7 +35,7 @@ put_at-requires-2 c =
     let m : length a.name.minor ≡ longest_minor = search rules in
     let t = length-take-le a.name.length a.name.minor (omega arith) in
     let p = c.put_at in
-    let g = length-set p.new.0 (a.at + 8) a.name.length in
+    let g = length-set p.new.bytes (a.at + 8) a.name.length in
     let b = c.bytes-1.given in
     omega (arith, shown_length a.name.length a.name.minor)
 
@@ -43,7 +43,7 @@ pub shape_of-bytes : goal.shape_of-bytes
 shape_of-bytes c =
     let a = c.args in
     let p = c.put_at in
-    c.bytes-2-1.given ∙ length-set p.new.0 (a.at + 8) a.name.length
+    c.bytes-2-1.given ∙ length-set p.new.bytes (a.at + 8) a.name.length
     ∙ c.bytes-1.given
 
 pub returns : goal.returns
@@ -52,10 +52,10 @@ returns c =
     let n = a.name in
     let p = c.put_at in
     let q = c.put_at-2 in
-    let m : length n.minor-1 ≡ longest_minor = search rules in
-    let j : length n.major-1 ≡ major_bytes = search rules in
-    let s = shown_length n.length n.minor-1 in
-    let e = overlaid_spelt a.at a.bytes-1.now p.new.0 q.new.0 (resource_of n) n.length
-    (take n.length n.minor-1) j (omega arith) (sym s) (sym (shown_within n.length n.minor-1 (omega arith)))
+    let m : length n.minor ≡ longest_minor = search rules in
+    let j : length n.major ≡ major_bytes = search rules in
+    let s = shown_length n.length n.minor in
+    let e = overlaid_spelt a.at a.bytes.now p.new.bytes q.new.bytes (resource_of n) n.length
+    (take n.length n.minor) j (omega arith) (sym s) (sym (shown_within n.length n.minor (omega arith)))
     p.ensures q.ensures in
-    (e, omega arith)
+    record { bytes_after = e; value = omega arith }

@@ -1,29 +1,22 @@
 -- The name lies within the bytes, so the length byte and the first three bytes can be read, and they decide.
-use Prim.Native.Nat.{ℕ, ◌+◌, ◌-◌, ◌≤◌}
+use Prim.Native.Nat.{ℕ, ◌+◌, ◌-◌}
 use mathlib.Core.Path.{◌≡◌, sym, ap, ◌∙◌}
 use mathlib.Core.Bool.{Bool, not, ◌&&◌}
 use native.Mathlib.Omega.{arith}
 use borrow.Author.Tests.{not-true, not-false}
-use lib.ListN.{length, take, drop}
+use lib.ListN.{take, drop}
 use Rattle.lists.specs.Lists.{same_bytes}
 use Rattle.kinds.specs.Limits.{system_bytes}
 use Rattle.namearea.specs.Scanning.{fits_parts}
 use Rattle.namearea.specs.Lawfulness.{lawful_there}
 use Rattle.std.proofs.lemmas.Bool.{not_from_true, not_from_false}
-use Rattle.namearea.proofs.lawful.lawful_at.Goals.{Start}
 use Rattle.namearea.proofs.lawful.lawful_at.Goals as goal
 
-inside : (c : Start) → c.args.o + 9 ≤ length c.args.bytes.now
-inside c = (fits_parts c.args.bytes.now c.args.o c.requires.1).0
-
 pub overflow_add-n : goal.overflow_add-n
-overflow_add-n c = omega (arith, inside c.before)
+overflow_add-n c = omega (arith, fits_parts c.args.bytes.now c.args.o c.requires.1)
 
 pub bounds-bytes-o : goal.bounds-bytes-o
-bounds-bytes-o c = omega (arith, inside c.before.before)
-
-pub overflow_cast-n : goal.overflow_cast-n
-overflow_cast-n c = omega (arith, c.shared_slice_known-2-1.given (c.args.o + 8))
+bounds-bytes-o c = omega (arith, fits_parts c.args.bytes.now c.args.o c.requires.1)
 
 pub returns-then-not-minor_good : goal.returns-then-not-minor_good
 returns-then-not-minor_good c =
@@ -32,19 +25,17 @@ returns-then-not-minor_good c =
     ∙ ap (λ (b : Bool). b && not (same_bytes (take 3 (drop c.args.o c.args.bytes.now)) system_bytes)) g)
 
 pub overflow_add-end : goal.overflow_add-end
-overflow_add-end c = omega (arith, inside c.before.before.before.before)
+overflow_add-end c = omega (arith, fits_parts c.args.bytes.now c.args.o c.requires.1)
 
 pub slice_bounds-same_bytes-end : goal.slice_bounds-same_bytes-end
-slice_bounds-same_bytes-end c = omega (arith, inside c.before.before.before.before)
+slice_bounds-same_bytes-end c = omega (arith, fits_parts c.args.bytes.now c.args.o c.requires.1)
 
 pub returns : goal.returns
 returns c =
-    let m = c.before.before.before in
-    let k = m.before.before.before.before in
-    let bytes = k.args.bytes.now in
-    let o = k.args.o in
-    let g = sym m.minor_good.ensures ∙ not-false _ (not_from_true _ m.if-not-minor_good.false) in
+    let bytes = c.args.bytes.now in
+    let o = c.args.o in
+    let g = sym c.minor_good.ensures ∙ not-false _ (not_from_true _ c.if-not-minor_good.false) in
     let x : (o + 3) - o ≡ 3 = omega arith in
     ap not (c.same_bytes.ensures ∙ ap (λ (j : ℕ). same_bytes (take j (drop o bytes)) system_bytes) x)
-    ∙ sym (lawful_there bytes o k.requires.1
+    ∙ sym (lawful_there bytes o c.requires.1
     ∙ ap (λ (b : Bool). b && not (same_bytes (take 3 (drop o bytes)) system_bytes)) g)

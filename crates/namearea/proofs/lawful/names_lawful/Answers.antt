@@ -13,9 +13,6 @@ use Rattle.namearea.proofs.lawful.names_lawful.Goals as goal
 pub loop-i-init : goal.loop-i-init
 loop-i-init c = (omega arith, omega arith, all_start)
 
-pub overflow_cast-o : goal.overflow_cast-o
-overflow_cast-o c = omega (arith, c.shared_slice_known-in-loop-i-1.given c.loop-i.i)
-
 pub lawful_at-requires : goal.lawful_at-requires
 lawful_at-requires c =
     let f = front_at (fits_at c.args.bytes.now) c.args.ats.now c.args.n c.loop-i.i 0

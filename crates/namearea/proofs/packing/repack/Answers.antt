@@ -11,7 +11,7 @@ loop-i-init c =
 pub lay-at-requires : goal.lay-at-requires
 lay-at-requires c =
     let p = c.requires in
-    ((p.0, p.1, omega arith), c.loop-i.invariant.1)
+    record { clear = (p.0, p.1, omega arith); laid = c.loop-i.invariant.1 }
 
 pub loop-i-preserved : goal.loop-i-preserved
 loop-i-preserved c =

@@ -1,7 +1,5 @@
-use Prim.Native.Nat.{◌+◌}
 use native.Mathlib.Omega.{arith}
 use mathlib.Core.Path.{◌≡◌, refl, sym, ◌∙◌}
-use mathlib.Core.Bool.{false}
 use lib.ListN.{length}
 use Rattle.kinds.specs.Limits.{longest_minor}
 use Rattle.namearea.specs.Pointing.{name_of}
@@ -13,7 +11,7 @@ use Rattle.namearea.proofs.points.find.Goals as goal
 pub loop-i-init : goal.loop-i-init
 loop-i-init c =
     let m : length c.args.name.minor ≡ longest_minor = search rules in
-    (pass_start c.requires.0, search rules, omega arith, refl)
+    (pass_start c.requires.in_use, search rules, omega arith, refl)
 
 pub offset_bounds-ats-i : goal.offset_bounds-ats-i
 offset_bounds-ats-i c = omega (arith, c.loop-i.invariant.0.used.few)
@@ -21,23 +19,19 @@ offset_bounds-ats-i c = omega (arith, c.loop-i.invariant.0.used.few)
 pub bounds-ats-i : goal.bounds-ats-i
 bounds-ats-i c = omega (arith, c.loop-i.invariant.0.used.few)
 
-pub overflow_cast-o : goal.overflow_cast-o
-overflow_cast-o c = omega (arith, c.shared_slice_known-in-loop-i-1.given c.loop-i.i)
-
 pub shows-requires : goal.shows-requires
 shows-requires c =
     let v = c.loop-i.invariant in
     let f = new_fits v.0 (omega arith) c.if-o-at.true in
-    ((v.0.used.room, f), (v.1, v.2))
+    record { bytes_len_bound = (v.0.used.room, f); major_len = (v.1, v.2) }
 
 pub returns-then-shows : goal.returns-then-shows
 returns-then-shows c =
     let v = c.loop-i.invariant in
-    let b = c.before.before.before.before.before.before.before in
-    let k = b.before.before.before.before.before.before in
     let e = c.if-o-at.true in
     let t = sym c.if-shows.true ∙ c.shows.ensures in
-    found v.0 (omega arith) e k.args.name v.2 t
+    let f = found v.0 (omega arith) e c.args.name v.2 t in
+    record { at_value = f.0; there_value = f.1 }
 
 pub overflow_add-m : goal.overflow_add-m
 overflow_add-m c =
@@ -53,16 +47,6 @@ bounds-bytes-at c =
     let f = new_within v.0 (omega arith) e in
     omega arith
 
-pub overflow_cast-at : goal.overflow_cast-at
-overflow_cast-at c =
-    let l = c.loop-i in
-    omega (arith, c.shared_slice_known-then-o-at-1.given (l.at + 8))
-
-pub overflow_add-at : goal.overflow_add-at
-overflow_add-at c =
-    let l = c.loop-i in
-    omega (arith, c.shared_slice_known-then-o-at-1.given (l.at + 8))
-
 pub overflow_add-at-then-o-at : goal.overflow_add-at-then-o-at
 overflow_add-at-then-o-at c =
     let v = c.loop-i.invariant in
@@ -73,9 +57,7 @@ overflow_add-at-then-o-at c =
 pub loop-i-preserved-then-o-at : goal.loop-i-preserved-then-o-at
 loop-i-preserved-then-o-at c =
     let v = c.loop-i.invariant in
-    let b = c.before.before.before.before.before.before.before.before in
-    let k = b.before.before.before.before.before.before in
-    let x = name_of k.args.name.major k.args.name.minor k.args.name.length in
+    let x = name_of c.args.name.major c.args.name.minor c.args.name.length in
     let e = c.if-o-at.true in
     let o = new_out v.0 (omega arith) e x v.3 (sym c.if-shows.false ∙ c.shows.ensures) in
     (pass_new v.0 (omega arith) e, v.1, v.2, o)
@@ -91,4 +73,5 @@ pub returns : goal.returns
 returns c =
     let v = c.loop-i.invariant in
     let a = c.args in
-    not_found v.0 (omega (arith, v.0.within)) a.name v.2 v.3
+    let f = not_found v.0 (omega (arith, v.0.within)) a.name v.2 v.3 in
+    record { at_value = f.0; there_value = f.1 }

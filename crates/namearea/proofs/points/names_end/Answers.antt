@@ -1,4 +1,3 @@
-use Prim.Native.Nat.{◌+◌}
 use native.Mathlib.Omega.{arith}
 use Rattle.namearea.specs.Finding.{pass_start, pass_seen, pass_new, new_within, all_passed}
 use Rattle.namearea.proofs.points.names_end.Goals as goal
@@ -12,9 +11,6 @@ offset_bounds-ats-i c = omega (arith, c.loop-i.invariant.used.few)
 pub bounds-ats-i : goal.bounds-ats-i
 bounds-ats-i c = omega (arith, c.loop-i.invariant.used.few)
 
-pub overflow_cast-o : goal.overflow_cast-o
-overflow_cast-o c = omega (arith, c.shared_slice_known-1.given c.loop-i.i)
-
 pub overflow_add-m : goal.overflow_add-m
 overflow_add-m c =
     let v = c.loop-i.invariant in
@@ -26,12 +22,6 @@ bounds-bytes-at c =
     let v = c.loop-i.invariant in
     let f = new_within v (omega arith) c.if-o-at.true in
     omega arith
-
-pub overflow_cast-at : goal.overflow_cast-at
-overflow_cast-at c = omega (arith, c.shared_slice_known-then-o-at-1.given (c.loop-i.at + 8))
-
-pub overflow_add-at : goal.overflow_add-at
-overflow_add-at c = omega (arith, c.shared_slice_known-then-o-at-1.given (c.loop-i.at + 8))
 
 pub overflow_add-at-then-o-at : goal.overflow_add-at-then-o-at
 overflow_add-at-then-o-at c =
@@ -48,4 +38,4 @@ loop-i-preserved c = pass_seen c.loop-i.invariant (omega arith) c.if-o-at.false
 pub returns : goal.returns
 returns c =
     let v = c.loop-i.invariant in
-    (all_passed v (omega arith), v.low)
+    record { value = all_passed v (omega arith); upper_bound = v.low }

@@ -14,33 +14,33 @@ use Rattle.namearea.specs.Placing.{pointing_none, pointing_next, pointing_all, s
 use Rattle.namearea.proofs.points.points_of.Goals as goal
 
 pub names_end-from-requires : goal.names_end-from-requires
-names_end-from-requires c = c.requires.0
+names_end-from-requires c = c.requires.in_use
 
 pub loop-i-init : goal.loop-i-init
 unfolding padded
 loop-i-init c =
     let e = c.names_end-from.ensures in
-    let few : c.args.l.count ≤ longest_list = good_count (names_in c.args.l) c.requires.1 in
-    pointing_none few (search (rules, within)) e.0 (omega (arith, e.1, c.requires.0.room))
+    let few : c.args.l.count ≤ longest_list = good_count (names_in c.args.l) c.requires.l_value in
+    pointing_none few (search (rules, within)) e.value (omega (arith, e.upper_bound, c.requires.in_use.room))
 
 pub bounds-l-i : goal.bounds-l-i
 bounds-l-i c = omega (arith, c.loop-i.invariant.many)
 
 pub find-requires : goal.find-requires
 find-requires c =
-    (c.requires.0, short c.loop-i.invariant (omega arith) c.requires.1 no_wanted)
+    record { in_use = c.requires.in_use; length_le_longest_minor = short c.loop-i.invariant (omega arith) c.requires.l_value no_wanted }
 
 pub settle-s-requires : goal.settle-s-requires
 settle-s-requires c =
     let v = c.loop-i.invariant in
-    (omega (arith, v.near, v.few), short v (omega arith) c.requires.1 no_wanted)
+    (omega (arith, v.near, v.few), short v (omega arith) c.requires.l_value no_wanted)
 
 pub overflow_cast-q : goal.overflow_cast-q
 overflow_cast-q c =
     let v = c.loop-i.invariant in
     let f = c.find in
     let t = c.settle-s in
-    let w = stand_low v (omega arith) c.requires.1 no_wanted f.result f.ensures.0 f.ensures.1 t.result
+    let w = stand_low v (omega arith) c.requires.l_value no_wanted f.result f.ensures.at_value f.ensures.there_value t.result
     t.ensures in
     omega (arith, v.few)
 
@@ -58,7 +58,7 @@ loop-i-preserved c =
       exclusive = (get_or c.args.l.names l.i no_wanted).exclusive;
       name = record { 0 = t.result.at };
     } in
-    pointing_next l.invariant (omega arith) c.requires.1 no_wanted f.result f.ensures.0 f.ensures.1 t.result
+    pointing_next l.invariant (omega arith) c.requires.l_value no_wanted f.result f.ensures.at_value f.ensures.there_value t.result
     t.ensures v refl refl
 
 pub returns : goal.returns

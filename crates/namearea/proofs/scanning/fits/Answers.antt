@@ -10,12 +10,6 @@ use Rattle.lists.specs.Pick.{pick_true, pick_false}
 use Rattle.namearea.specs.Scanning.{fits_at}
 use Rattle.namearea.proofs.scanning.fits.Goals as goal
 
-pub overflow_cast-result : goal.overflow_cast-result
-overflow_cast-result c = omega (arith, c.shared_slice_known-1.given (c.args.o + 8))
-
-pub overflow_add-result-then-o-bytes : goal.overflow_add-result-then-o-bytes
-overflow_add-result-then-o-bytes c = omega (arith, c.shared_slice_known-1.given (c.args.o + 8))
-
 pub returns-then-o-bytes : goal.returns-then-o-bytes
 unfolding fits_at
 returns-then-o-bytes c = sym (pick_true _ _ _ (le-leb _ _ c.if-o-bytes.true))

@@ -5,32 +5,32 @@ use Rattle.namearea.specs.Steps.{sought_fit, sought_found, sought_goes, sought_d
 use Rattle.namearea.proofs.scanning.named_before.Goals as goal
 
 pub overflow_add-size : goal.overflow_add-size
-overflow_add-size c = omega (arith, fits_parts _ _ c.requires.1.0)
+overflow_add-size c = omega (arith, fits_parts _ _ c.requires.at_value.0)
 
 pub bounds-bytes-at : goal.bounds-bytes-at
-bounds-bytes-at c = omega (arith, fits_parts _ _ c.requires.1.0)
+bounds-bytes-at c = omega (arith, fits_parts _ _ c.requires.at_value.0)
 
 pub overflow_cast-end : goal.overflow_cast-end
-overflow_cast-end c = omega (arith, fits_parts _ _ c.requires.1.0)
+overflow_cast-end c = omega (arith, fits_parts _ _ c.requires.at_value.0)
 
 pub overflow_add-end : goal.overflow_add-end
-overflow_add-end c = omega (arith, fits_parts _ _ c.requires.1.0)
+overflow_add-end c = omega (arith, fits_parts _ _ c.requires.at_value.0)
 
 pub overflow_add-last : goal.overflow_add-last
-overflow_add-last c = omega (arith, fits_parts _ _ c.requires.1.0)
+overflow_add-last c = omega (arith, fits_parts _ _ c.requires.at_value.0)
 
 pub bounds-bytes-at-2 : goal.bounds-bytes-at-2
-bounds-bytes-at-2 c = omega (arith, fits_parts _ _ c.requires.1.0)
+bounds-bytes-at-2 c = omega (arith, fits_parts _ _ c.requires.at_value.0)
 
 pub loop-i-init : goal.loop-i-init
 loop-i-init c =
     let p = c.requires in
     record {
       within = omega arith;
-      few = p.0.0;
-      room = p.0.1;
-      fit = p.1.0;
-      fits = p.1.1;
+      few = p.n_in_bounds.0;
+      room = p.n_in_bounds.1;
+      fit = p.at_value.0;
+      fits = p.at_value.1;
       left = any_start;
     }
 
@@ -39,9 +39,6 @@ offset_bounds-ats-i c = omega (arith, c.loop-i.invariant.few)
 
 pub bounds-ats-i : goal.bounds-ats-i
 bounds-ats-i c = omega (arith, c.loop-i.invariant.few)
-
-pub overflow_cast-o : goal.overflow_cast-o
-overflow_cast-o c = omega (arith, c.shared_slice_known-in-loop-i-1.given c.loop-i.i)
 
 pub overflow_add-o : goal.overflow_add-o
 overflow_add-o c =

@@ -10,54 +10,53 @@ use Rattle.namearea.proofs.scanning.next_end.Goals as goal
 
 pub returns-then-first_of-i : goal.returns-then-first_of-i
 returns-then-first_of-i c =
-    next_seen c.requires.1 c.args.o (first_there c.first_of.ensures c.requires.0.0 c.if-first_of-i.true)
+    next_seen c.requires.walked c.args.o (first_there c.first_of.ensures c.requires.i_in_bounds.0 c.if-first_of-i.true)
 
 pub returns-then-o-at : goal.returns-then-o-at
 returns-then-o-at c =
     let f = first_none c.first_of.ensures c.if-first_of-i.false in
-    next_other c.requires.1 c.args.o f c.if-o-at.true
+    next_other c.requires.walked c.args.o f c.if-o-at.true
 
 pub fits-requires : goal.fits-requires
-fits-requires c = omega (arith, c.requires.1.room)
+fits-requires c = omega (arith, c.requires.walked.room)
 
 pub returns-then-not-fits : goal.returns-then-not-fits
 returns-then-not-fits c =
-    let f = test_failed_not _ _ c.fits2.ensures (not_from_false _ c.if-not-fits.true) in
-    next_out c.requires.1 c.args.o c.if-o-at.false f
+    let f = test_failed_not _ _ c.fits.ensures (not_from_false _ c.if-not-fits.true) in
+    next_out c.requires.walked c.args.o c.if-o-at.false f
 
 pub named_before-requires : goal.named_before-requires
 named_before-requires c =
     let p = c.requires in
-    (p.0, (test_held_not _ _ c.fits2.ensures (not_from_true _ c.if-not-fits.false), p.1.fit))
+    record {
+      n_in_bounds = p.i_in_bounds;
+      at_value = (test_held_not _ _ c.fits.ensures (not_from_true _ c.if-not-fits.false), p.walked.fit);
+    }
 
 pub returns-then-named_before : goal.returns-then-named_before
 returns-then-named_before c =
-    let b = c.before.before in
-    let k = b.before.before.before.before.before in
-    let f = test_held_not _ _ b.fits2.ensures (not_from_true _ b.if-not-fits.false) in
+    let f = test_held_not _ _ c.fits.ensures (not_from_true _ c.if-not-fits.false) in
     let n = sym c.named_before.ensures ∙ c.if-named_before.true in
-    next_named k.requires.1 k.args.o b.if-o-at.false f n
+    next_named c.requires.walked c.args.o c.if-o-at.false f n
 
 pub bounds-bytes-at : goal.bounds-bytes-at
 bounds-bytes-at c =
-    omega (arith, fits_parts _ _ (test_held_not _ _ c.fits2.ensures (not_from_true _ c.if-not-fits.false)))
+    omega (arith, fits_parts _ _ (test_held_not _ _ c.fits.ensures (not_from_true _ c.if-not-fits.false)))
 
 pub overflow_cast-result : goal.overflow_cast-result
 overflow_cast-result c =
-    omega (arith, fits_parts _ _ (test_held_not _ _ c.fits2.ensures (not_from_true _ c.if-not-fits.false)))
+    omega (arith, fits_parts _ _ (test_held_not _ _ c.fits.ensures (not_from_true _ c.if-not-fits.false)))
 
 pub overflow_add-result : goal.overflow_add-result
 overflow_add-result c =
-    omega (arith, fits_parts _ _ (test_held_not _ _ c.fits2.ensures (not_from_true _ c.if-not-fits.false)))
+    omega (arith, fits_parts _ _ (test_held_not _ _ c.fits.ensures (not_from_true _ c.if-not-fits.false)))
 
 pub overflow_add-result-2 : goal.overflow_add-result-2
 overflow_add-result-2 c =
-    omega (arith, fits_parts _ _ (test_held_not _ _ c.fits2.ensures (not_from_true _ c.if-not-fits.false)))
+    omega (arith, fits_parts _ _ (test_held_not _ _ c.fits.ensures (not_from_true _ c.if-not-fits.false)))
 
 pub returns : goal.returns
 returns c =
-    let b = c.before.before.before in
-    let k = b.before.before.before.before.before in
-    let f = test_held_not _ _ b.fits2.ensures (not_from_true _ b.if-not-fits.false) in
+    let f = test_held_not _ _ c.fits.ensures (not_from_true _ c.if-not-fits.false) in
     let n = sym c.named_before.ensures ∙ c.if-named_before.false in
-    next_new k.requires.1 k.args.o b.if-o-at.false f n
+    next_new c.requires.walked c.args.o c.if-o-at.false f n

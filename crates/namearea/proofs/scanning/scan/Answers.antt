@@ -16,7 +16,7 @@ bounds-ats-i c = omega (arith, c.loop-i.invariant.1.few)
 pub next_end-requires : goal.next_end-requires
 next_end-requires c =
     let v = c.loop-i.invariant.1 in
-    ((omega (arith, v.few), omega arith), v.walked)
+    record { i_in_bounds = (omega (arith, v.few), omega arith); walked = v.walked }
 
 pub returns-in_default : goal.returns-in_default
 returns-in_default c =
@@ -28,8 +28,7 @@ pub loop-i-preserved : goal.loop-i-preserved
 loop-i-preserved c =
     let v = c.loop-i.invariant.1 in
     let n = c.next_end in
-    let g = c.e-1.given in
-    (omega arith, turn_goes v (omega arith) n.result n.ensures g.0.0 g.1)
+    (omega arith, turn_goes v (omega arith) n.result n.ensures _ c.in-End.is)
 
 pub returns : goal.returns
 returns c =

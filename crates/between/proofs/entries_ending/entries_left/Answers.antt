@@ -50,7 +50,7 @@ loop-i-preserved c =
     let s = c.args.q.slots in
     let e = sym c.is_live.ensures in (
       elim c.if-is_live.branch [
-        then-is_live w ↦ kept f s l.i (omega arith) (omega arith) _ l.invariant.0 _ _ (e ∙ w.if-is_live.true) w.r-is
+        | then-is_live w ↦ kept f s l.i (omega arith) (omega arith) _ l.invariant.0 _ _ (e ∙ w.if-is_live.true) w.r-is
         | else-is_live w ↦ passed f s l.i (omega arith) (omega arith) _ l.invariant.0 _ _ (e ∙ w.if-is_live.false) w.r-is
       ],
       omega arith,

@@ -51,7 +51,7 @@ loop-i-preserved c =
     let s = c.args.s.areas in
     let e = sym c.stays.ensures in (
       elim c.if-stays.branch [
-        then-stays w ↦ kept f s l.i (omega arith) (omega arith) _ l.invariant.0 _ _ (e ∙ w.if-stays.true) w.r-is
+        | then-stays w ↦ kept f s l.i (omega arith) (omega arith) _ l.invariant.0 _ _ (e ∙ w.if-stays.true) w.r-is
         | else-stays w ↦ passed f s l.i (omega arith) (omega arith) _ l.invariant.0 _ _ (e ∙ w.if-stays.false) w.r-is
       ],
       omega arith,

@@ -31,5 +31,5 @@ returns c =
     let e = items_of _ l.result l.ensures ∙ marked_lines q m.result c.requires.q_value m.ensures in
     record {
       value = w.value ∙ ap (λ (r : ItemList). report_reply r (length area)) e;
-      area_after = w.area_after ∙ ap (λ (r : ItemList). report_written r area) e
+      area_after = w.area_after ∙ ap (λ (r : ItemList). report_written r area) e;
     }

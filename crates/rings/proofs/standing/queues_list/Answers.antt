@@ -21,12 +21,16 @@ with_queue-l-requires c =
 pub loop-i-preserved : goal.loop-i-preserved
 loop-i-preserved c =
     let t = c.named_before in
-    let v = c.loop-i.invariant.3 in
-    (omega arith, omega arith, omega arith, elim c.if-not-named_before.branch [
-        then-not-named_before w ↦ group_kept v (omega arith) (omega arith) _ t.result t.ensures w.if-not-named_before.true (omega arith) _
-    (w.l-is ∙ w.with_queue-l.ensures)
+    let v = c.loop-i.invariant.3 in (
+      omega arith,
+      omega arith,
+      omega arith,
+      elim c.if-not-named_before.branch [
+        | then-not-named_before w ↦ group_kept v (omega arith) (omega arith) _ t.result t.ensures w.if-not-named_before.true (omega arith) _
+            (w.l-is ∙ w.with_queue-l.ensures)
         | else-not-named_before w ↦ group_passed v (omega arith) (omega arith) _ t.result t.ensures w.if-not-named_before.false _ w.l-is
-      ])
+      ],
+    )
 
 pub returns : goal.returns
 returns c = group_end _ _ _ c.loop-i.invariant.3 (omega arith)

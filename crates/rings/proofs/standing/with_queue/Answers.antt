@@ -21,12 +21,17 @@ with_two-r-requires c =
 
 pub loop-j-preserved : goal.loop-j-preserved
 loop-j-preserved c =
-    let l = c.loop-j in
-    (omega arith, omega arith, omega arith, omega arith, elim c.if-x-n.branch [
-        then-x-n w ↦ walk_kept l.invariant.4 (omega arith) (omega arith) (omega arith) _ (eq-eqb _ _ w.if-x-n.true) _
-    (w.r-is ∙ w.with_two-r.ensures ∙ ap (λ (n : ℕ). with_item l.r (l.j ∷ n ∷ [])) (owner_byte w.owns-owner.ensures))
+    let l = c.loop-j in (
+      omega arith,
+      omega arith,
+      omega arith,
+      omega arith,
+      elim c.if-x-n.branch [
+        | then-x-n w ↦ walk_kept l.invariant.4 (omega arith) (omega arith) (omega arith) _ (eq-eqb _ _ w.if-x-n.true) _
+            (w.r-is ∙ w.with_two-r.ensures ∙ ap (λ (n : ℕ). with_item l.r (l.j ∷ n ∷ [])) (owner_byte w.owns-owner.ensures))
         | else-x-n w ↦ walk_passed l.invariant.4 (omega arith) (omega arith) (omega arith) _ (ne_eqb _ _ w.if-x-n.false) _ w.r-is
-      ])
+      ],
+    )
 
 pub returns : goal.returns
 returns c = walk_end c.loop-j.invariant.4 (omega arith) (omega arith)

@@ -7,7 +7,7 @@ use lib.Dec.{eqb}
 use lib.ListN.{length, take, drop}
 use denote.Ref.{Bor}
 use Rattle.lists.specs.Lists.{same_bytes}
-use Rattle.lists.proofs.same_bytes_fn.Reads as same_bytes_fn
+use Rattle.lists.proofs.same_bytes.Reads as same_bytes_fn
 use Rattle.impostors.specs.Fitting.{◌⊗◌, fits_end, fits_lent}
 use Rattle.impostors.specs.Wrong.{RuledOut, wrong_at}
 use Rattle.impostors.specs.Parts.{lent}

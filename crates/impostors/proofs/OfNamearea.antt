@@ -7,7 +7,7 @@ use native.Mathlib.Omega.{arith}
 use lib.Dec.{eqb, leb, ltb}
 use lib.ListN.{length, take, drop, get_or, replicate}
 use borrow.Author.Tests.{eqb-true, leb-true}
-use denote.Ref.{MutBor, at_last}
+use denote.Ref.{Bor, MutBor, at_last}
 use Rattle.lists.specs.Pick.{pick}
 use Rattle.lists.specs.Lists.{every, some, same_bytes}
 use Rattle.lists.specs.Every.{every_one}
@@ -32,12 +32,12 @@ use Rattle.namearea.proofs.points.points_of.Reads as points_of
 use Rattle.namearea.proofs.append.append.Reads as append
 use Rattle.namearea.proofs.lawful.names_lawful.Reads as names_lawful
 use Rattle.namearea.proofs.area.NameArea.empty.Reads as empty
-use Rattle.impostors.specs.Fitting.{◌⊗◌, fits-NameList, fits-Points, fits_end, fits_lent, fits_offsets}
+use Rattle.impostors.specs.Fitting.{◌⊗◌, fits-NameList, fits-Points, fits_end, fits_lent, fits_mut_lent, fits_mut_offsets, fits_offsets}
 use Rattle.impostors.specs.Fitting.{fits_usize}
 use Rattle.impostors.specs.Opened.{tables_open}
 use Rattle.impostors.specs.Samples.{names_of, z}
 use Rattle.impostors.specs.Wrong.{RuledOut, wrong_at, RuledOutWith, wrong_with, told_apart}
-use Rattle.impostors.specs.Parts.{lent}
+use Rattle.impostors.specs.Parts.{lent, mut_lent}
 
 -- x, y and z take 10 bytes each, and so does v, whose minor part is 7
 abbrev v : Resource
@@ -51,7 +51,7 @@ xy = spelt x ++ spelt y
 
 -- offsets, how many of them count, and the bytes; here all of them count
 abbrev Scans : Type 0
-Scans = MutBor (List ℕ) × (ℕ × (MutBor (List ℕ) × Unit {0}))
+Scans = Bor (List ℕ) × (ℕ × (Bor (List ℕ) × Unit {0}))
 
 abbrev fits-Scans : Scans → Bool
 fits-Scans = fits_offsets ⊗ fits_usize ⊗ fits_lent ⊗ fits_end
@@ -176,13 +176,13 @@ scan_past_the_count =
 
 -- offsets, the old area, where the new offsets go, and the new area
 abbrev Packs : Type 0
-Packs = MutBor (List ℕ) × (MutBor (List ℕ) × (MutBor (List ℕ) × (MutBor (List ℕ) × Unit {0})))
+Packs = Bor (List ℕ) × (Bor (List ℕ) × (MutBor (List ℕ) × (MutBor (List ℕ) × Unit {0})))
 
 abbrev fits-Packs : Packs → Bool
-fits-Packs = fits_offsets ⊗ fits_lent ⊗ fits_offsets ⊗ fits_lent ⊗ fits_end
+fits-Packs = fits_offsets ⊗ fits_lent ⊗ fits_mut_offsets ⊗ fits_mut_lent ⊗ fits_end
 
 abbrev packs : List ℕ → List ℕ → Packs
-packs os old = (lent os, (lent old, (lent (replicate (length os) 0), (lent (replicate 16384 0), tt))))
+packs os old = (lent os, (lent old, (mut_lent (replicate (length os) 0), (mut_lent (replicate 16384 0), tt))))
 
 -- it leaves these offsets and that area, which it makes of the old offsets and the old area
 abbrev leaving : (List ℕ → List ℕ → List ℕ) → (List ℕ → List ℕ → List ℕ) → Packs → Unit {0} × Packs
@@ -324,7 +324,7 @@ repack_bytes_left_behind =
 
 -- offsets, how many of them count, the bytes and a list of names; here the area holds x and y
 abbrev Finds : Type 0
-Finds = MutBor (List ℕ) × (ℕ × (MutBor (List ℕ) × (NameList × Unit {0})))
+Finds = Bor (List ℕ) × (ℕ × (Bor (List ℕ) × (NameList × Unit {0})))
 
 abbrev fits-Finds : Finds → Bool
 fits-Finds = fits_offsets ⊗ fits_usize ⊗ fits_lent ⊗ fits-NameList ⊗ fits_end
@@ -429,10 +429,10 @@ abbrev Appends : Type 0
 Appends = MutBor (List ℕ) × (NameList × (Points × Unit {0}))
 
 abbrev fits-Appends : Appends → Bool
-fits-Appends = fits_lent ⊗ fits-NameList ⊗ fits-Points ⊗ fits_end
+fits-Appends = fits_mut_lent ⊗ fits-NameList ⊗ fits-Points ⊗ fits_end
 
 abbrev appends : List Ask → Appends
-appends l = (lent (area_for name_area (x ∷ [])), (names_of l, (points_to (x ∷ []) (names_of l), tt)))
+appends l = (mut_lent (area_for name_area (x ∷ [])), (names_of l, (points_to (x ∷ []) (names_of l), tt)))
 
 -- it leaves that area, which it makes of the old one, the list and the offsets
 abbrev leaves : (List ℕ → NameList → Points → List ℕ) → Appends → Unit {0} × Appends

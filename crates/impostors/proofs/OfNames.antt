@@ -19,7 +19,7 @@ use Rattle.rules.specs.Table.{named, shr, exc}
 use Rattle.rules.specs.SystemCases.{beginning, sysdsn}
 use Rattle.history.specs.Samples.{x, y}
 use Rattle.names.specs.Named.{resource_of, kept, ask_of, names_in}
-use Rattle.names.proofs.same_name_fn.Reads as same_name_fn
+use Rattle.names.proofs.same_name.Reads as same_name_fn
 use Rattle.names.proofs.is_legal.Reads as is_legal
 use Rattle.names.proofs.is_system.Reads as is_system_fn
 use Rattle.names.proofs.list.names_good.Reads as names_good_fn

@@ -24,7 +24,7 @@ use Rattle.queue.specs.declared.Queue.{Queue}
 use Rattle.queue.specs.declared.looks.Flags.{Flags}
 use Rattle.queue.specs.declared.offsets.Offsets.{Offsets}
 use Rattle.queue.proofs.releasing.release.Reads as release
-use Rattle.queue.proofs.queuing.with_tail_fn.Reads as with_tail_fn
+use Rattle.queue.proofs.queuing.with_tail.Reads as with_tail_fn
 use Rattle.queue.proofs.queuing.made_exclusive.Reads as made_exclusive
 use Rattle.queue.proofs.offsets.offsets_of.Reads as offsets_of
 use Rattle.queue.proofs.offsets.same_offsets.Reads as same_offsets

@@ -55,11 +55,11 @@ use Rattle.resources.proofs.looks.deq_looks.Reads as deq_looks_fn
 use Rattle.resources.proofs.enq.enq_found.Reads as enq_found_fn
 use Rattle.resources.proofs.deq.deq_found.Reads as deq_found_fn
 use Rattle.impostors.specs.Fitting.{◌⊗◌, fits-Codes, fits-DeqRet, fits-NameList, fits-Queue, fits-Ret}
-use Rattle.impostors.specs.Fitting.{fits-PointedList, fits-TaskNumber, fits_end, fits_lent, fits_u32, fits_usize}
+use Rattle.impostors.specs.Fitting.{fits-PointedList, fits-TaskNumber, fits_end, fits_mut_lent, fits_u32, fits_usize}
 use Rattle.impostors.specs.Opened.{tables_open}
 use Rattle.impostors.specs.Samples.{task, names_of, points_of, x_at, y_at}
 use Rattle.impostors.specs.Wrong.{RuledOut, wrong_at, RuledOutWith, wrong_with}
-use Rattle.impostors.specs.Parts.{lent, verdict_number}
+use Rattle.impostors.specs.Parts.{mut_lent, verdict_number}
 use Rattle.impostors.specs.Verdicts.{Judge, bad, system, short, first_only, two_bytes, in_minor_too, by_name}
 use Rattle.impostors.specs.Verdicts.{unless_test}
 use Rattle.impostors.specs.Haves.{full_by, whole_list, none_free}
@@ -108,19 +108,19 @@ abbrev leaves : Codes × (ℕ × (MutBor (List ℕ) × Unit {0})) → List ℕ
 leaves a l = (tt, (a.0, (a.1.0, (at_last a.1.1.0 l, tt))))
 
 -- all 16 codes are written, where the list has one name
-pub write_all_16 : RuledOutWith (λ k. fits-Codes ⊗ fits_u32 ⊗ fits_lent ⊗ fits_end) write.Pre write.Post
+pub write_all_16 : RuledOutWith (λ k. fits-Codes ⊗ fits_u32 ⊗ fits_mut_lent ⊗ fits_end) write.Pre write.Post
     (λ k a. leaves a (written_on a.0.bytes a.1.1.0.now))
 unfolding tables_open
 write_all_16 =
-    wrong_with ([], tt) (codes (8 ∷ 4 ∷ []), (1, (lent (replicate 16 238), tt))) refl (omega arith, omega arith)
+    wrong_with ([], tt) (codes (8 ∷ 4 ∷ []), (1, (mut_lent (replicate 16 238), tt))) refl (omega arith, omega arith)
     (λ l. eqb (get_or l 1 0) 4) refl refl
 
 -- what is behind the codes becomes 0
-pub write_zeros_behind : RuledOutWith (λ k. fits-Codes ⊗ fits_u32 ⊗ fits_lent ⊗ fits_end) write.Pre write.Post
+pub write_zeros_behind : RuledOutWith (λ k. fits-Codes ⊗ fits_u32 ⊗ fits_mut_lent ⊗ fits_end) write.Pre write.Post
     (λ k a. leaves a (padded (length a.1.1.0.now) 0 (take a.1.0 a.0.bytes)))
 unfolding tables_open
 write_zeros_behind =
-    wrong_with ([], tt) (codes (8 ∷ []), (1, (lent (238 ∷ 238 ∷ []), tt))) refl (omega arith, omega arith)
+    wrong_with ([], tt) (codes (8 ∷ []), (1, (mut_lent (238 ∷ 238 ∷ []), tt))) refl (omega arith, omega arith)
     (λ l. eqb (get_or l 1 0) 0) refl refl
 
 -- NAMES, before anything is looked for

@@ -38,12 +38,12 @@ use Rattle.resources.specs.Serving.{enq_leaves, deq_leaves}
 use Rattle.resources.proofs.enq.served.Reads as enq_served
 use Rattle.resources.proofs.deq.served.Reads as deq_served
 use Rattle.impostors.specs.Fitting.{◌⊗◌, fits-AllTables, fits-DeqRet, fits-PointedList, fits-Ret}
-use Rattle.impostors.specs.Fitting.{fits-TaskNumber, fits_end, fits_lent}
+use Rattle.impostors.specs.Fitting.{fits-TaskNumber, fits_end, fits_mut_lent}
 use Rattle.impostors.specs.Opened.{tables_open}
 use Rattle.impostors.specs.Samples.{task, points_of, x_at, y_at, z_at, daughter, enq, after}
 use Rattle.impostors.specs.Wrong.{RuledOutWith, wrong_result, wrong_area}
 use Rattle.impostors.specs.Answers.{but}
-use Rattle.impostors.specs.Parts.{lent, making}
+use Rattle.impostors.specs.Parts.{mut_lent, making}
 use Rattle.impostors.specs.Haves.{if_have, Doing, all_or_nothing, skipped_queued, skips_nothing, last_first}
 use Rattle.impostors.specs.Haves.{skipped_made_exclusive, never_waits, answers_zero}
 
@@ -52,11 +52,11 @@ abbrev Given : Type 0 → Type 0
 Given R = AllTables × (TaskNumber × (R × (PointedList × (MutBor (List ℕ) × Unit {0}))))
 
 abbrev fits-Given : {R : Type 0} → (R → Bool) → Given R → Bool
-fits-Given ret = fits-AllTables ⊗ fits-TaskNumber ⊗ ret ⊗ fits-PointedList ⊗ fits_lent ⊗ fits_end
+fits-Given ret = fits-AllTables ⊗ fits-TaskNumber ⊗ ret ⊗ fits-PointedList ⊗ fits_mut_lent ⊗ fits_end
 
 -- on the tables of a step task n asks, with these bytes as codes area
 abbrev on : {R : Type 0} → Step → ℕ → R → PointedList → List ℕ → Given R
-on s n ret l area = (tables_of s, (task n, (ret, (l, (lent area, tt)))))
+on s n ret l area = (tables_of s, (task n, (ret, (l, (mut_lent area, tt)))))
 
 module _ {R : Type 0} (a : Given R) where
   abbrev step : Step

@@ -20,10 +20,10 @@ use Rattle.queue.specs.declared.Queue.{Queue}
 use Rattle.rings.specs.Listings.{report_reply, report_written}
 use Rattle.rings.proofs.reports.stuck.Reads as stuck
 use Rattle.rings.proofs.reports.queues.Reads as queues
-use Rattle.impostors.specs.Fitting.{◌⊗◌, fits-Queue, fits_end, fits_lent}
+use Rattle.impostors.specs.Fitting.{◌⊗◌, fits-Queue, fits_end, fits_mut_lent}
 use Rattle.impostors.specs.Opened.{tables_open}
 use Rattle.impostors.specs.Samples.{Asking, after, ring_of_two, owned}
-use Rattle.impostors.specs.Parts.{lent}
+use Rattle.impostors.specs.Parts.{mut_lent}
 use Rattle.impostors.specs.Wrong.{RuledOutWith, wrong_result, wrong_area}
 
 -- a queue and a list area
@@ -31,11 +31,11 @@ abbrev Given : Type 0
 Given = Queue × (MutBor (List ℕ) × Unit {0})
 
 abbrev fits-Given : Given → Bool
-fits-Given = fits-Queue ⊗ fits_lent ⊗ fits_end
+fits-Given = fits-Queue ⊗ fits_mut_lent ⊗ fits_end
 
 -- the queue after a run, and an area of n bytes of 238
 abbrev on : List Asking → ℕ → Given
-on l n = (stored_entries (after start l).queue, (lent (replicate n 238), tt))
+on l n = (stored_entries (after start l).queue, (mut_lent (replicate n 238), tt))
 
 -- what is reported of another list, and what the area then holds
 abbrev reporting : (List Entry → ItemList) → Given → Reply × Given

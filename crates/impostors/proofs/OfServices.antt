@@ -108,7 +108,7 @@ use Rattle.queue.specs.Pointing.{offsets_in}
 use Rattle.rules.specs.Examples.{filled}
 use Rattle.services.proofs.Names.{sound_kept, step_tables}
 use Rattle.namearea.specs.Scanning.{area_for}
-use Rattle.impostors.specs.Fitting.{◌⊗◌, fits_bool, fits_end, fits_i16, fits_lent, fits_u16, fits_u32, fits_u8}
+use Rattle.impostors.specs.Fitting.{◌⊗◌, fits_bool, fits_end, fits_i16, fits_mut_lent, fits_u16, fits_u32, fits_u8}
 use Rattle.impostors.specs.Fitting.{fits-Address, fits-DeqRet, fits-EcbList, fits-EcbNumber, fits-MaybeEcb}
 use Rattle.impostors.specs.Fitting.{fits-NameList, fits-Request, fits-Ret, fits-Tables, fits-TaskNumber}
 use Rattle.impostors.specs.Opened.{tables_open}
@@ -117,7 +117,7 @@ use Rattle.impostors.specs.Samples.{Asking, task, ecb, names_of, ecbs_of, after,
 use Rattle.impostors.specs.Samples.{with_ecb, daughter_owns, owned, awaited, shares_and_owns, z, posted_once, waited_on}
 use Rattle.impostors.specs.Samples.{one_area, both_asked}
 use Rattle.impostors.specs.Samples.{ring_of_two, behind_another, shared_ahead, ring_of_last}
-use Rattle.impostors.specs.Parts.{lent, address, last_best, incomplete}
+use Rattle.impostors.specs.Parts.{mut_lent, address, last_best, incomplete}
 use Rattle.impostors.specs.Impostors.{by_service}
 use Rattle.impostors.specs.Answers.{answer_of, answering, but, but_served, retelling, coding, reporting}
 use Rattle.impostors.specs.Verdicts.{Judge, keeping_off, never110, first_only, two_bytes, in_minor_too, by_name}
@@ -149,7 +149,7 @@ abbrev Coded : Type 0 → Type 0
 Coded R = Tables × (TaskNumber × (R × (NameList × (MutBor (List ℕ) × Unit {0}))))
 
 abbrev fits-Coded : {R : Type 0} → (R → Bool) → Coded R → Bool
-fits-Coded ret = fits-Tables ⊗ fits-TaskNumber ⊗ ret ⊗ fits-NameList ⊗ fits_lent ⊗ fits_end
+fits-Coded ret = fits-Tables ⊗ fits-TaskNumber ⊗ ret ⊗ fits-NameList ⊗ fits_mut_lent ⊗ fits_end
 
 abbrev Gets : Type 0
 Gets = Tables × (TaskNumber × (ℕ × (ℕ × (Bool × Unit {0}))))
@@ -167,7 +167,7 @@ abbrev Serves : Type 0
 Serves = Tables × (Request × (NameList × (EcbList × (MutBor (List ℕ) × Unit {0}))))
 
 abbrev fits-Serves : Serves → Bool
-fits-Serves = fits-Tables ⊗ fits-Request ⊗ fits-NameList ⊗ fits-EcbList ⊗ fits_lent ⊗ fits_end
+fits-Serves = fits-Tables ⊗ fits-Request ⊗ fits-NameList ⊗ fits-EcbList ⊗ fits_mut_lent ⊗ fits_end
 
 -- what a service does for a caller that the gate lets through
 abbrev behind_gate : Step → TaskNumber → Verdict → Outcome Step → Outcome Step
@@ -363,7 +363,7 @@ pub enq_goes_on_without_control : RuledOutWith (λ k. fits-Coded fits-Ret) enq.P
     but_served (enq_of s a.1.0 a.1.1.0 (names_in a.1.1.1.0) area) (λ u. with_tasks u s.tasks)))
 unfolding tables_open
 enq_goes_on_without_control =
-    wrong_with ([], tt) (tables owned, (task 2, (None, (names_of (exc x ∷ []), (lent [], tt))))) refl tt
+    wrong_with ([], tt) (tables owned, (task 2, (None, (names_of (exc x ∷ []), (mut_lent [], tt))))) refl tt
     (λ o. not (waits 2 o.outcome.tables)) refl refl
 
 -- codes are written under every RET kind: NONE for x
@@ -379,7 +379,7 @@ pub enq_writes_codes_under_none : RuledOutWith (λ k. fits-Coded fits-Ret) enq.P
     (λ k a. coding a (λ s area. enq_writes s a.1.0 a.1.1.0 (names_in a.1.1.1.0) area))
 unfolding tables_open
 enq_writes_codes_under_none =
-    wrong_with ([], tt) (tables_of start, (task 1, (None, (names_of (exc x ∷ []), (lent (238 ∷ []), tt))))) refl tt
+    wrong_with ([], tt) (tables_of start, (task 1, (None, (names_of (exc x ∷ []), (mut_lent (238 ∷ []), tt))))) refl tt
     (λ o. eqb (get_or o.codes 0 238) 0) refl refl
 
 -- system names, document 02 §2: ENQ by a verdict that is wrong in one of the ways of Verdicts. On a fresh step task 1
@@ -388,7 +388,7 @@ abbrev enq_by : Judge Ret → Coded Ret → Answer × Coded Ret
 enq_by f a = coding a (λ s area. enq_judged f s a.1.0 a.1.1.0 (names_in a.1.1.1.0) area)
 
 abbrev asking : Ret → List Ask → List ℕ → Coded Ret
-asking ret l area = (tables_of start, (task 1, (ret, (names_of l, (lent area, tt)))))
+asking ret l area = (tables_of start, (task 1, (ret, (names_of l, (mut_lent area, tt)))))
 
 -- there is no 110: a system name is queued, as document 01 alone would have it
 pub enq_no_110 : RuledOutWith (λ k. fits-Coded fits-Ret) enq.Pre enq.Post (λ k a. enq_by (keeping_off never110) a)
@@ -455,7 +455,7 @@ enq_having f a = coding a (λ s area. enq_doing f s a.1.0 a.1.1.0 (names_in a.1.
 
 abbrev asks_mixed : Coded Ret
 asks_mixed =
-    (tables shares_and_owns, (task 1, (Have, (names_of (exc x ∷ exc y ∷ shr z ∷ []), (lent (238 ∷ 238 ∷ 238 ∷ []), tt)))))
+    (tables shares_and_owns, (task 1, (Have, (names_of (exc x ∷ exc y ∷ shr z ∷ []), (mut_lent (238 ∷ 238 ∷ 238 ∷ []), tt)))))
 
 -- so many entries are queued
 abbrev many : ℕ → Served Tables → Bool
@@ -520,7 +520,7 @@ kept_answer s h area f =
 
 -- so many entries of task 1, which asks by HAVE for these names
 abbrev full_asking : ℕ → List Ask → List ℕ → Coded Ret
-full_asking n l area = (tables_of (filled n), (task 1, (Have, (names_of l, (lent area, tt)))))
+full_asking n l area = (tables_of (filled n), (task 1, (Have, (names_of l, (mut_lent area, tt)))))
 
 -- the number of the reply that says an outcome
 abbrev reply_number : {T : Type 0} → Outcome T → ℕ
@@ -634,7 +634,7 @@ pub deq_refuses_a_system_name : RuledOutWith (λ k. fits-Coded fits-DeqRet) deq.
     (λ k a. coding a (λ s area. deq_judged deq_keeping_off s a.1.0 a.1.1.0 (names_in a.1.1.1.0) area))
 unfolding tables_open
 deq_refuses_a_system_name =
-    wrong_with ([], tt) (tables_of start, (task 1, (DeqHave, (names_of (exc sysdsn ∷ []), (lent (238 ∷ []), tt))))) refl
+    wrong_with ([], tt) (tables_of start, (task 1, (DeqHave, (names_of (exc sysdsn ∷ []), (mut_lent (238 ∷ []), tt))))) refl
     tt (λ o. eqb o.outcome.number 110) refl refl
 
 -- The names in the area, document 02 §5: what DEQ leaves is stored with other names there, or in another order.
@@ -649,7 +649,7 @@ deq_storing names a =
     (record { tables = pick (soundb a.0) (stored_by ns left) right.0.tables; reply = right.0.reply }, right.1)
 
 abbrev releasing : List Asking → ℕ → Coded DeqRet
-releasing run c = (tables run, (task c, (DeqNone, (names_of (exc x ∷ []), (lent [], tt)))))
+releasing run c = (tables run, (task c, (DeqNone, (names_of (exc x ∷ []), (mut_lent [], tt)))))
 
 -- names keep the order that they had: 2 releases x, which 4 waits for behind the first entry for y, and x stays in front
 pub deq_in_the_old_order : RuledOutWith (λ k. fits-Coded fits-DeqRet) deq.Pre deq.Post
@@ -673,7 +673,7 @@ pub deq_grants_nothing : RuledOutWith (λ k. fits-Coded fits-DeqRet) deq.Pre deq
     but_served (deq_of s a.1.0 a.1.1.0 (names_in a.1.1.1.0) area) (λ u. with_tasks u s.tasks)))
 unfolding tables_open
 deq_grants_nothing =
-    wrong_with ([], tt) (tables awaited, (task 1, (DeqNone, (names_of (exc x ∷ []), (lent [], tt))))) refl tt
+    wrong_with ([], tt) (tables awaited, (task 1, (DeqNone, (names_of (exc x ∷ []), (mut_lent [], tt))))) refl tt
     (λ o. waits 2 o.outcome.tables) refl refl
 
 -- 0 although a code is 8: x, which nobody has an entry for
@@ -689,7 +689,7 @@ pub deq_says_0_with_a_code_8 : RuledOutWith (λ k. fits-Coded fits-DeqRet) deq.P
     (λ k a. coding a (λ s area. deq_says_zero s a.1.0 a.1.1.0 (names_in a.1.1.1.0) area))
 unfolding tables_open
 deq_says_0_with_a_code_8 =
-    wrong_with ([], tt) (tables_of start, (task 1, (DeqHave, (names_of (exc x ∷ []), (lent (238 ∷ []), tt))))) refl tt
+    wrong_with ([], tt) (tables_of start, (task 1, (DeqHave, (names_of (exc x ∷ []), (mut_lent (238 ∷ []), tt))))) refl tt
     (λ o. eqb o.outcome.number 0) refl refl
 
 -- WAIT
@@ -845,7 +845,7 @@ pub serve_loses_the_code : RuledOutWith (λ k. fits-Serves) serve.Pre serve.Post
     (λ k a. coding a (λ s area. service_of s (codeless a.1.0) (names_in a.1.1.0) (ecbs_in a.1.1.1.0) area))
 unfolding tables_open
 serve_loses_the_code =
-    wrong_with ([], tt) (tables with_ecb, (End (task 2) 7, (names_of [], (ecbs_of [], (lent [], tt))))) refl tt
+    wrong_with ([], tt) (tables with_ecb, (End (task 2) 7, (names_of [], (ecbs_of [], (mut_lent [], tt))))) refl tt
     (λ o. eqb (ecb_at o.outcome.tables.all.ecbs.ecbs 0).code 0) refl refl
 
 -- no code is ever written: TEST of a name that is available is to write 0
@@ -857,7 +857,7 @@ pub serve_writes_no_code : RuledOutWith (λ k. fits-Serves) serve.Pre serve.Post
 unfolding tables_open
 serve_writes_no_code =
     wrong_with ([], tt)
-    (tables_of start, (Enq (task 1) Test, (names_of (exc x ∷ []), (ecbs_of [], (lent (238 ∷ []), tt))))) refl tt
+    (tables_of start, (Enq (task 1) Test, (names_of (exc x ∷ []), (ecbs_of [], (mut_lent (238 ∷ []), tt))))) refl tt
     (λ o. eqb (get_or o.codes 0 0) 238) refl refl
 
 -- 0 is answered for 110, with nothing done: task 1 asks for a system name
@@ -869,7 +869,7 @@ pub serve_says_0_for_110 : RuledOutWith (λ k. fits-Serves) serve.Pre serve.Post
     (λ k a. coding a (λ s area. zero_for110 s a.1.0 (names_in a.1.1.0) (ecbs_in a.1.1.1.0) area))
 unfolding tables_open
 serve_says_0_for_110 =
-    wrong_with ([], tt) (tables_of start, (Enq (task 1) None, (names_of (exc sysdsn ∷ []), (ecbs_of [], (lent [], tt)))))
+    wrong_with ([], tt) (tables_of start, (Enq (task 1) None, (names_of (exc sysdsn ∷ []), (ecbs_of [], (mut_lent [], tt)))))
     refl tt (λ o. eqb o.outcome.number 0) refl refl
 
 -- values are told by another kind: the number of ATTACH as an address, the address of GETMAIN as a number
@@ -884,7 +884,7 @@ pub serve_answers_an_address : RuledOutWith (λ k. fits-Serves) serve.Pre serve.
 unfolding tables_open
 serve_answers_an_address =
     wrong_with ([], tt)
-    (tables_of start, (Attach (task 1) 0 (pos 0) NoEcb, (names_of [], (ecbs_of [], (lent [], tt))))) refl tt
+    (tables_of start, (Attach (task 1) 0 (pos 0) NoEcb, (names_of [], (ecbs_of [], (mut_lent [], tt))))) refl tt
     (λ o. eqb (kind_of o.outcome.besides) 2) refl refl
 
 pub serve_answers_a_number : RuledOutWith (λ k. fits-Serves) serve.Pre serve.Post
@@ -892,7 +892,7 @@ pub serve_answers_a_number : RuledOutWith (λ k. fits-Serves) serve.Pre serve.Po
 unfolding tables_open
 serve_answers_a_number =
     wrong_with ([], tt)
-    (tables one_area, (Getmain (task 1) 8 10 false, (names_of [], (ecbs_of [], (lent [], tt))))) refl tt
+    (tables one_area, (Getmain (task 1) 8 10 false, (names_of [], (ecbs_of [], (mut_lent [], tt))))) refl tt
     (λ o. eqb (kind_of o.outcome.besides) 3) refl refl
 
 -- THE REPORTS
@@ -902,10 +902,10 @@ abbrev Reports : Type 0
 Reports = Tables × (MutBor (List ℕ) × Unit {0})
 
 abbrev fits-Reports : Reports → Bool
-fits-Reports = fits-Tables ⊗ fits_lent ⊗ fits_end
+fits-Reports = fits-Tables ⊗ fits_mut_lent ⊗ fits_end
 
 abbrev on : Tables → ℕ → Reports
-on t n = (t, (lent (replicate n 238), tt))
+on t n = (t, (mut_lent (replicate n 238), tt))
 
 -- a byte of the list area at the end, the number that is answered, and the number of items
 abbrev byte_is : ℕ → ℕ → Served Tables → Bool

@@ -23,8 +23,8 @@ use Rattle.tasks.proofs.choice.lowest_free.Reads as lowest_free
 use Rattle.tasks.proofs.choice.dispatched.Reads as dispatched
 use Rattle.tasks.proofs.empty.Reads as empty
 use Rattle.tasks.proofs.at.Reads as at
-use Rattle.tasks.proofs.is_live_fn.Reads as is_live_fn
-use Rattle.tasks.proofs.in_use_fn.Reads as in_use_fn
+use Rattle.tasks.proofs.is_live.Reads as is_live_fn
+use Rattle.tasks.proofs.in_use.Reads as in_use_fn
 use Rattle.tasks.proofs.with_place.Reads as with_place_fn
 use Rattle.tasks.proofs.direct.is_subtask.Reads as is_subtask
 use Rattle.tasks.proofs.direct.has_subtasks.Reads as has_subtasks_fn

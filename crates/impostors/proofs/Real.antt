@@ -24,7 +24,7 @@ use Rattle.services.proofs.Tables.serve.Reads as serve
 use Rattle.calls.specs.Called.{Called}
 use Rattle.calls.specs.Calls.{Calls, stop, call, served, seen_of}
 use Rattle.impostors.specs.Opened.{tables_open}
-use Rattle.impostors.specs.Parts.{lent}
+use Rattle.impostors.specs.Parts.{mut_lent}
 use Rattle.impostors.specs.Answers.{done_says}
 use Rattle.impostors.specs.Samples.{Asking, asked, ruled, after, all_done, runs}
 
@@ -50,9 +50,9 @@ turns s (a ∷ l) = seen_of (asked a) (answer s a) ∷ turns (ruled s a).outcome
 called : (s : Step) (a : Asking) → sound_step s ≡ true → (ruled s a).outcome.number ≡ 0 → Called serve.Post
 called s a h n = record {
   lifetimes = ([], tt);
-  given = (tables_of s, (a.request, (a.names, (a.ecbs, (lent a.area, tt)))));
+  given = (tables_of s, (a.request, (a.names, (a.ecbs, (mut_lent a.area, tt)))));
   result = answer s a;
-  exits = (tables_of s, (a.request, (a.names, (a.ecbs, (lent (ruled s a).codes, tt)))));
+  exits = (tables_of s, (a.request, (a.names, (a.ecbs, (mut_lent (ruled s a).codes, tt)))));
   meets =
       sym
       (sound_serves (tables_of s) (asked a) (sound_kept s h)

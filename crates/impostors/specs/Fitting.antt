@@ -2,7 +2,7 @@
 -- lists and numbers may be any; a counterexample is one that code can be given, so each
 -- is held to the types of its function's parameters, `fits-T` for the type T.
 use Rattle.std.specs.Prelude.{ℕ, ◌+◌, Bool, true, ◌&&◌, List, eqb, leb, ltb, ℤ, nat_abs, length}
-use Rattle.std.specs.Borrow.{Bor}
+use Rattle.std.specs.Borrow.{Bor, MutBor}
 use Rattle.lists.specs.Lists.{every}
 use Rattle.kinds.specs.Limits.{highest_task, longest_list, major_bytes, longest_minor, most_entries, all_ecbs, most_areas}
 use Rattle.kinds.specs.Limits.{name_area}
@@ -71,13 +71,19 @@ fits_i16 z = leb (nat_abs z) 32767
 abbrev array : {A : Type 0} → ℕ → (A → Bool) → List A → Bool
 array n p l = eqb (length l) n && every p l
 
--- bytes that are lent
+-- bytes that are lent, to be read and to be written
 abbrev pub fits_lent : Bor (List ℕ) → Bool
 fits_lent r = every fits_u8 r.now
 
--- offsets that are lent
+abbrev pub fits_mut_lent : MutBor (List ℕ) → Bool
+fits_mut_lent r = every fits_u8 r.now
+
+-- offsets that are lent, to be read and to be written
 abbrev pub fits_offsets : Bor (List ℕ) → Bool
 fits_offsets r = every fits_u16 r.now
+
+abbrev pub fits_mut_offsets : MutBor (List ℕ) → Bool
+fits_mut_offsets r = every fits_u16 r.now
 
 -- KINDS
 

@@ -1,7 +1,7 @@
 -- IMPOSTORS: whole services that look like ours and are not. The first is made from any choice of refusals, the others
 -- from any other service, of which they keep all but their vice; so each stands for many.
 use Rattle.std.specs.Prelude.{ℕ, ◌≡◌, Bool, true, false, ◌&&◌, List, [], map}
-use Rattle.std.specs.Borrow.{Bor}
+use Rattle.std.specs.Borrow.{MutBor}
 use Rattle.lists.specs.Lists.{every}
 use Rattle.kinds.specs.Replies.{Besides, done_by}
 use Rattle.kinds.specs.Tasks.{with_condition}
@@ -47,9 +47,9 @@ Keeps f g =
     (κ : List ℕ) (p : ℕ × ℕ) (γ : ℕ)
     → serve.Post (κ, tt) (lent p γ g.asking.area) (f g).answer (lent p γ (f g).codes)
   where
-    lent : ℕ × ℕ → ℕ → List ℕ → Tables × (Request × (NameList × (EcbList × (Bor (List ℕ) × Unit {0}))))
+    lent : ℕ × ℕ → ℕ → List ℕ → Tables × (Request × (NameList × (EcbList × (MutBor (List ℕ) × Unit {0}))))
     lent p γ area =
-        let r : Bor (List ℕ) = record { ref_ptr = p; ghost_name = γ; now = area } in
+        let r : MutBor (List ℕ) = record { ref_ptr = p; ghost_name = γ; now = area } in
         (g.tables, (g.asking.request, (g.asking.names, (g.asking.ecbs, (r, tt)))))
 
 -- what is given fits the types of the parameters

@@ -1,6 +1,6 @@
 -- PARTS OF TABLES that counterexamples are made of.
 use Rattle.std.specs.Prelude.{ℕ, ◌+◌, Bool, false, not, cond, ◌&&◌, ◌||◌, List, [], ◌∷◌, eqb, leb, ltb}
-use Rattle.std.specs.Borrow.{Bor}
+use Rattle.std.specs.Borrow.{Bor, MutBor}
 use Rattle.lists.specs.Lists.{every}
 use Rattle.lists.specs.Tables.{padded}
 use Rattle.kinds.specs.Limits.{highest_task, all_ecbs}
@@ -36,9 +36,12 @@ use Rattle.ecbs.specs.Blocks.{ecb_table_of}
 use Rattle.ecbs.specs.declared.EcbTable.{EcbTable}
 use Rattle.impostors.specs.Samples.{task, ecb}
 
--- bytes that are lent
+-- bytes that are lent, to be read and to be written
 abbrev pub lent : List ℕ → Bor (List ℕ)
 lent l = record { ref_ptr = (0, 0); now = l }
+
+abbrev pub mut_lent : List ℕ → MutBor (List ℕ)
+mut_lent l = record { ref_ptr = (0, 0); ghost_name = 0; now = l }
 
 abbrev pub address : ℕ → Address
 address n = record { 0 = n }

@@ -25,6 +25,7 @@ HERE = {
     "crates/rings/": {"way_at": "way_at_lem", "joined_by": "joined_by_lem"},
     "crates/tasks/proofs/Freeing.antt": {"in_use": "used_now"},
 }
+CAMEL = re.compile(r"[a-z][a-z0-9]*(?:[A-Z][a-z0-9]*)+")
 LABELS = re.compile(r"/proofs/(.*/)?(Proof|Answers|Invariants)\.antt$")
 
 
@@ -95,6 +96,10 @@ def table(texts):
             own |= t.declared | t.fields
         else:
             own |= {n for n in t.declared if re.search(r"[a-z0-9][A-Z]", n) and "-" not in n}
+        own |= {n for n in t.alone if CAMEL.fullmatch(n) and n not in t.lent}
+    for p in files(".rt"):
+        for group in re.findall(r"ghost use [^;]*\{([^}]*)\}", read(p)):
+            own |= {n for n in items(group) if CAMEL.fullmatch(n)}
     own = {n for n in own if n[0].isalpha()}
     turned = {n: respelled(n) for n in own}
     together = collections.defaultdict(set)

@@ -5,7 +5,7 @@ use mathlib.Core.List.{List, [], ◌∷◌}
 use Prim.Native.Nat.{ℕ, ◌+◌, ◌≤◌}
 use native.Mathlib.Omega.{arith}
 use lib.ListN.{length}
-use Rattle.lists.specs.Lists.{everyAt, alike}
+use Rattle.lists.specs.Lists.{every_at, alike}
 use Rattle.kinds.specs.Limits.{highest_task}
 use Rattle.kinds.specs.Tasks.{in_resource_wait}
 use Rattle.kinds.specs.declared.tasks.Task.{Task}
@@ -25,13 +25,13 @@ mark_is q n x h =
     (mark_at_lem (lacks_among all_marks q) n h ∙ ap (λ (b : Bool). b && lacks n q) (all_marked n h))
 
 marks_are : (q : List Entry) (n : ℕ) (ts : List Task) → n + length ts ≤ highest_task + 1
-    → everyAt (by_mark (marks_among all_marks q)) n ts ≡ everyAt (wait_good q) n ts
+    → every_at (by_mark (marks_among all_marks q)) n ts ≡ every_at (wait_good q) n ts
 marks_are q n [] h = refl
 marks_are q n (x ∷ ts) h = ap₂ ◌&&◌ (mark_is q n x (omega arith)) (marks_are q (n + 1) ts (omega arith))
 
 pub waits_are : (q : List Entry) (all m : Marks) (ts : List Task) (r : Bool) → length ts ≡ highest_task
-    → all ≡ all_marks → m ≡ marks_among all q → everyAt (by_mark m) 1 ts ≡ r → r ≡ waits_good q ts
+    → all ≡ all_marks → m ≡ marks_among all q → every_at (by_mark m) 1 ts ≡ r → r ≡ waits_good q ts
 unfolding waits_good
 waits_are q all m ts r h a e k =
-    sym k ∙ ap (λ (p : Marks). everyAt (by_mark p) 1 ts) (e ∙ ap (λ (p : Marks). marks_among p q) a)
+    sym k ∙ ap (λ (p : Marks). every_at (by_mark p) 1 ts) (e ∙ ap (λ (p : Marks). marks_among p q) a)
     ∙ marks_are q 1 ts (omega arith)

@@ -7,7 +7,7 @@ use native.Mathlib.Omega.{arith}
 use lib.Seq.{ext_get_or}
 use lib.ListN.{length, get_or, set, length-replicate}
 use Rattle.lists.specs.Pick.{pick}
-use Rattle.lists.specs.Lists.{mapAt}
+use Rattle.lists.specs.Lists.{map_at}
 use Rattle.lists.specs.Numbered.{map_at_at, length_map_at, up_to, up_to_end}
 use Rattle.kinds.specs.Limits.{highest_task}
 use Rattle.kinds.specs.Tasks.{no_task, in_resource_wait, with_condition}
@@ -71,8 +71,8 @@ pub wakes_are : (ts : List Task) (q : List Entry) (among m : Marks) (i : ℕ) (r
 wakes_are ts q among m i r long past a e v =
     let f = unless_marked (marks_among (wait_marks ts) q) in
     v ∙ up_to_end (unless_marked m) 1 i ts (omega arith)
-    ∙ ap (λ (p : Marks). mapAt (unless_marked p) 1 ts) (e ∙ ap (λ (p : Marks). marks_among p q) a)
-    ∙ ext_get_or no_task (mapAt f 1 ts) (wake_by q ts) (length_map_at f 1 ts ∙ sym (length_map_at (wake_at q) 1 ts))
+    ∙ ap (λ (p : Marks). map_at (unless_marked p) 1 ts) (e ∙ ap (λ (p : Marks). marks_among p q) a)
+    ∙ ext_get_or no_task (map_at f 1 ts) (wake_by q ts) (length_map_at f 1 ts ∙ sym (length_map_at (wake_at q) 1 ts))
     (λ i h.
     let k : i < length ts = omega (arith, length_map_at f 1 ts) in
     map_at_at f 1 ts no_task i k ∙ wake_is ts q i (1 + i) (omega arith) (omega arith)

@@ -1,7 +1,7 @@
 -- The rules on waiters as loops test them: ECB by ECB, and task by task with the tally at hand.
 use Rattle.std.specs.Prelude.{◌≡◌, refl, Bool, true, false, ◌&&◌, List, [], ◌∷◌, ℕ, ◌+◌, ◌-◌, ◌≤◌, ◌<◌, length, get_or, drop}
 use Rattle.std.proofs.Common.{ap, ap₂, ◌∙◌, arith, eq-eqb, ne_eqb}
-use Rattle.lists.specs.Lists.{every, everyAt, howMany}
+use Rattle.lists.specs.Lists.{every, every_at, how_many}
 use Rattle.lists.specs.Every.{rest_fails, rest_goes}
 use Rattle.lists.specs.Numbered.{every_at_fails, every_at_goes}
 use Rattle.kinds.specs.Limits.{highest_task}
@@ -51,24 +51,24 @@ need_from t n x = need_good x.condition (get_or t n 0)
 -- the need of the task at place i, and those of the tasks behind it
 pub need_at : (t : List ℕ) (ts : List Task) (i : ℕ) → i < length ts → (b : Bool)
     → need_good (get_or ts i no_task).condition (get_or t (i + 1) 0) ≡ b
-    → everyAt (need_from t) (i + 1) (drop i ts) ≡ (b && everyAt (need_from t) (i + 1 + 1) (drop (i + 1) ts))
+    → every_at (need_from t) (i + 1) (drop i ts) ≡ (b && every_at (need_from t) (i + 1 + 1) (drop (i + 1) ts))
 unfolding need_from
 need_at t ts i h true e = every_at_goes (need_from t) (i + 1) i ts no_task h e
 need_at t ts i h false e = every_at_fails (need_from t) (i + 1) i ts no_task h e
 
 needs_counted : (k n : ℕ) (es : List Ecb) (ts : List Task) → n + length ts ≤ k
-    → everyAt (need_from (tally_from k 0 es)) n ts
-    ≡ everyAt (λ m (x : Task). need_good x.condition (howMany (waited_on_by m) es)) n ts
+    → every_at (need_from (tally_from k 0 es)) n ts
+    ≡ every_at (λ m (x : Task). need_good x.condition (how_many (waited_on_by m) es)) n ts
 unfolding need_from
 needs_counted k n es [] h = refl
 needs_counted k n es (x ∷ ts) h =
     let e : 0 + n ≡ n = omega arith in
     ap₂ ◌&&◌
-    (ap (need_good x.condition) (waits_at k 0 n es (omega arith) ∙ ap (λ (m : ℕ). howMany (waited_on_by m) es) e))
+    (ap (need_good x.condition) (waits_at k 0 n es (omega arith) ∙ ap (λ (m : ℕ). how_many (waited_on_by m) es) e))
     (needs_counted k (n + 1) es ts (omega arith))
 
 pub needs_from : (es : List Ecb) (ts : List Task) (t : Tally) → t ≡ tally_of es → length ts ≡ highest_task
-    → everyAt (need_from t.ecbs) 1 ts ≡ needs_good es ts
+    → every_at (need_from t.ecbs) 1 ts ≡ needs_good es ts
 unfolding needs_good
 needs_from es ts t e h =
-    ap (λ (x : Tally). everyAt (need_from x.ecbs) 1 ts) e ∙ needs_counted (highest_task + 1) 1 es ts (omega arith)
+    ap (λ (x : Tally). every_at (need_from x.ecbs) 1 ts) e ∙ needs_counted (highest_task + 1) 1 es ts (omega arith)

@@ -2,7 +2,7 @@
 
 ghost use Rattle.std.specs.Prelude.{◌≡◌, ◌≤◌, ◌<◌};
 ghost use Rattle.kinds.specs.Limits.{highest_task, highest_ecb};
-ghost use Rattle.rules.specs.Events.{one_post_fewer, bits_left, comes_to, woken as wokenOf, signalled};
+ghost use Rattle.rules.specs.Events.{one_post_fewer, bits_left, comes_to, woken as woken_of, signalled};
 ghost use Rattle.rules.specs.SoundEcbs.{waiters_good, need_good, needs_good};
 ghost use Rattle.ecbs.specs.Blocks.{ecb_table_of};
 ghost use Rattle.between.specs.Posts.{signals_of};
@@ -113,7 +113,7 @@ fn comes_to(e: EcbTable, f: TaskTable, w: TaskNumber, k: Condition) -> Signals
 
 // A waiter that has no place cannot change.
 fn woken(d: EcbTable, f: TaskTable, w: TaskNumber) -> Signals
-    ensures { result ≡ signals_of (wokenOf f.places d.ecbs w.0) }
+    ensures { result ≡ signals_of (woken_of f.places d.ecbs w.0) }
 {
     if w.0 == 0 {
         return Signals { ecbs: d, tasks: f };

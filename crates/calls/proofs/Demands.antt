@@ -10,16 +10,16 @@ use Rattle.rules.specs.DemandTwo.{Demand2}
 use Rattle.services.specs.Kept.{step_of, tables_of, said, said_with, soundb}
 use Rattle.services.specs.declared.Tables.{Tables}
 use Rattle.services.specs.declared.Answer.{Answer}
-use Rattle.services.proofs.Demands.{testsIn, abendedIn, demand_one, demand_two, fresh_demand}
+use Rattle.services.proofs.Demands.{tests_in, abended_in, demand_one, demand_two, fresh_demand}
 use Rattle.services.proofs.Tables.fresh.Reads as fresh
 use Rattle.calls.specs.Called.{Called}
 use Rattle.calls.specs.Calls.{Call}
 use Rattle.calls.proofs.Runs.{promises, fresh_promises}
 
 module _ {t : Tables} {a : Asked} {r : Answer} {codes : List ℕ} (c : Call t a r codes) where
-  pub call_demand_one : Demand1 Tables (testsIn t a) t (abendedIn t a) a (said_with r codes)
+  pub call_demand_one : Demand1 Tables (tests_in t a) t (abended_in t a) a (said_with r codes)
   call_demand_one =
-      subst (λ (o : Served Tables). Demand1 Tables (testsIn t a) t (abendedIn t a) a o) (sym (promises c))
+      subst (λ (o : Served Tables). Demand1 Tables (tests_in t a) t (abended_in t a) a o) (sym (promises c))
       (demand_one t a)
 
   pub call_demand_two : Demand2 Tables (soundb t) (step_of t) tables_of a (said_with r codes)

@@ -20,8 +20,8 @@ use Rattle.rules.specs.Admission.{gate_of}
 use Rattle.rules.specs.Enq.{enq_verdict}
 use Rattle.rules.specs.Serve.{Asked, serve_of}
 use Rattle.laws.specs.SystemNames.{enq_asked}
-use Rattle.laws.specs.ToQueue.{zeroCoded}
-use Rattle.laws.specs.NameByName.{had, stepWith, NameByName, name_by_name, skips_all}
+use Rattle.laws.specs.ToQueue.{zero_coded}
+use Rattle.laws.specs.NameByName.{had, step_with, NameByName, name_by_name, skips_all}
 use Rattle.services.specs.Kept.{step_of, tables_of, said_with, served_by, soundb}
 use Rattle.services.specs.declared.Tables.{Tables}
 use Rattle.services.specs.declared.Answer.{Answer}
@@ -42,7 +42,7 @@ module _ (t : Tables) (c : TaskNumber) (l : Names) (es : Ecbs) (area : List ℕ)
   law = name_by_name (step_of t) (sound_step_lem t h) c o l es area g
 
   -- the names with code 0 are queued, these and no others, and only the caller's wait can begin
-  pub call_tables : r.tables ≡ tables_of (stepWith (step_of t) c (zeroCoded (step_of t).queue c.0 Have l))
+  pub call_tables : r.tables ≡ tables_of (step_with (step_of t) c (zero_coded (step_of t).queue c.0 Have l))
   call_tables = ap (λ (v : Served Tables). v.outcome.tables) ruled ∙ ap tables_of law.tables
 
   -- 8 is written exactly where the caller had an entry before, and else 0

@@ -10,7 +10,7 @@ use Rattle.kinds.proofs.Once.{reply_once}
 use Rattle.rules.specs.Steps.{Step, Outcome, Served, kept_by, untouched}
 use Rattle.rules.specs.Fresh.{fresh_of}
 use Rattle.rules.specs.Serve.{Asked, service_of, serve_of}
-use Rattle.rules.specs.Reading.{Turn, nothing, one_at_aTime}
+use Rattle.rules.specs.Reading.{Turn, nothing, one_at_a_time}
 use Rattle.rules.specs.Reports.{stuck_tasks, stuck_report}
 use Rattle.rules.specs.DemandThree.{Run, stop as ends, turn, turn_of, Fresh, Demand3}
 use Rattle.laws.specs.Served.{sound_served, serve_sound}
@@ -128,7 +128,7 @@ module _ (f : Called fresh.Post) (z : f.result.reply ≡ Done) where
       demand_three (step_of f.result.tables) (step_of t) us begins (calls_run k sound_start)
 
   -- NOBODY IS STUCK where the calls kept the habit, and the report of document 02 §1 says so
-  module _ {t : Tables} {us : List Turn} (k : Calls f.result.tables us t) (habit : one_at_aTime nothing us ≡ true)
+  module _ {t : Tables} {us : List Turn} (k : Calls f.result.tables us t) (habit : one_at_a_time nothing us ≡ true)
     where
       pub calls_nobody_stuck : stuck_tasks (step_of t).queue ≡ []
       calls_nobody_stuck = nobody_stuck _ (step_of t) us begins (calls_run k sound_start) habit

@@ -2,7 +2,7 @@
 // promises is what `mainstorage::room::lowest` promises: the two always answer the same.
 ghost use Rattle.std.specs.Prelude.{◌≡◌, ◌≤◌};
 ghost use Rattle.kinds.specs.Limits.{most_areas};
-ghost use Rattle.rules.specs.Storage.{lowest as lowestOf};
+ghost use Rattle.rules.specs.Storage.{lowest as lowest_of};
 ghost use Rattle.storage.specs.Stored.{areas_in};
 
 use kinds::{Address, Area, MaybeAddress};
@@ -10,7 +10,7 @@ use storage::Storage;
 
 pub(crate) fn every_multiple(s: Storage, want: Area) -> MaybeAddress
     requires { s.count ≤ most_areas }
-    ensures { result ≡ lowestOf (areas_in s) want }
+    ensures { result ≡ lowest_of (areas_in s) want }
 {
     let n = s.count;
     let owner = want.owner;

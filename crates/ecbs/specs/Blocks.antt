@@ -1,6 +1,6 @@
 -- The ECBs' struct and the list that it stands for; the tally of wait bits.
 use Rattle.std.specs.Prelude.{ℕ, ◌+◌, List, map, replicate, take}
-use Rattle.lists.specs.Lists.{howMany, numbers}
+use Rattle.lists.specs.Lists.{how_many, numbers}
 use Rattle.kinds.specs.Limits.{all_ecbs, highest_task}
 use Rattle.kinds.specs.Ecbs.{no_ecb}
 use Rattle.kinds.specs.declared.ecbs.Ecb.{Ecb}
@@ -20,7 +20,7 @@ no_events = replicate all_ecbs no_ecb
 
 -- how many of the ECBs each task waits on, for so many tasks of which n is the first
 unfoldable pub tally_from : ℕ → ℕ → List Ecb → List ℕ
-tally_from k n es = map (λ t. howMany (waited_on_by t) es) (numbers n k)
+tally_from k n es = map (λ t. how_many (waited_on_by t) es) (numbers n k)
 
 abbrev pub tally_of : List Ecb → Tally
 tally_of es = record { ecbs = tally_from (highest_task + 1) 0 es }

@@ -4,7 +4,7 @@
 ghost use Rattle.std.specs.Prelude.{◌≡◌, map, ◌≤◌, set};
 ghost use Rattle.lists.specs.Lists.{every};
 ghost use Rattle.kinds.specs.Limits.{highest_ecb};
-ghost use Rattle.rules.specs.Events.{ecb_at, word_of, unwaited as unwaitedOf, completed as completedOf};
+ghost use Rattle.rules.specs.Events.{ecb_at, word_of, unwaited as unwaited_of, completed as completed_of};
 ghost use Rattle.rules.specs.SoundEcbs.{ecbs_fit, ecb_word_good, ecb_words_good, zero_ecb};
 ghost use Rattle.ecbs.specs.Blocks.{ecb_table_of, no_events, tally_of};
 
@@ -142,7 +142,7 @@ pub fn with_ecb(e: EcbTable, n: EcbNumber, x: Ecb) -> EcbTable
 
 // What a post makes of an ECB.
 pub fn completed(code: u32) -> Ecb
-    ensures { result ≡ completedOf code }
+    ensures { result ≡ completed_of code }
 {
     Ecb {
         waiter: TaskNumber(0),
@@ -153,7 +153,7 @@ pub fn completed(code: u32) -> Ecb
 
 // The wait bit is off if task w set it.
 fn unwaited(x: Ecb, w: TaskNumber) -> Ecb
-    ensures { result ≡ unwaitedOf w.0 x }
+    ensures { result ≡ unwaited_of w.0 x }
 {
     if x.waiter.0 == w.0 {
         return Ecb {
@@ -167,7 +167,7 @@ fn unwaited(x: Ecb, w: TaskNumber) -> Ecb
 
 // The wait bits that task w set are off.
 pub fn unwaited_all(e: EcbTable, w: TaskNumber) -> EcbTable
-    ensures { result ≡ ecb_table_of (map (unwaitedOf w.0) e.ecbs) }
+    ensures { result ≡ ecb_table_of (map (unwaited_of w.0) e.ecbs) }
 {
     let mut r = e;
     let mut i: usize = 0;

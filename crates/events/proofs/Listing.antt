@@ -8,7 +8,7 @@ use native.Mathlib.Omega.{arith}
 use lib.Dec.{eqb}
 use lib.ListN.{length, get_or, take, drop, length-map, length-take, drop_of_length-le, get_or-map}
 use lib.Seq.{take-suc, drop-cons, take_all, get_or-take}
-use Rattle.lists.specs.Lists.{every, some, distinct, howMany}
+use Rattle.lists.specs.Lists.{every, some, distinct, how_many}
 use Rattle.lists.specs.Setting.{how_many_yes, how_many_no}
 use Rattle.kinds.specs.Limits.{longest_list}
 use Rattle.kinds.specs.declared.ecbs.EcbList.{EcbList}
@@ -66,12 +66,12 @@ module _ {l : EcbList} {n : ℕ} (s : Shown l n) (i : ℕ) (h : i < n) where
     any_from b e = ap (some f) next ∙ rw e
 
     pub counted : f (number_at l i) ≡ true
-        → howMany f (take i (ecbs_in l).ecbs) + 1 ≡ howMany f (take (i + 1) (ecbs_in l).ecbs)
-    counted e = sym (ap (howMany f) one_more ∙ how_many_yes f (take i (ecbs_in l).ecbs) (number_at l i) e)
+        → how_many f (take i (ecbs_in l).ecbs) + 1 ≡ how_many f (take (i + 1) (ecbs_in l).ecbs)
+    counted e = sym (ap (how_many f) one_more ∙ how_many_yes f (take i (ecbs_in l).ecbs) (number_at l i) e)
 
     pub not_counted : f (number_at l i) ≡ false
-        → howMany f (take i (ecbs_in l).ecbs) ≡ howMany f (take (i + 1) (ecbs_in l).ecbs)
-    not_counted e = sym (ap (howMany f) one_more ∙ how_many_no f (take i (ecbs_in l).ecbs) (number_at l i) e)
+        → how_many f (take i (ecbs_in l).ecbs) ≡ how_many f (take (i + 1) (ecbs_in l).ecbs)
+    not_counted e = sym (ap (how_many f) one_more ∙ how_many_no f (take i (ecbs_in l).ecbs) (number_at l i) e)
 
 -- behind the last number
 module _ {l : EcbList} {n : ℕ} (s : Shown l n) (i : ℕ) (h : n ≤ i) where

@@ -8,7 +8,7 @@ use lib.Dec.{eqb}
 use lib.ListN.{length, get_or, take, set, get_or-eq_default}
 use borrow.Author.Tests.{eq-eqb, ne_eqb}
 use Rattle.lists.specs.Pick.{pick}
-use Rattle.lists.specs.Lists.{some, mapAt}
+use Rattle.lists.specs.Lists.{some, map_at}
 use Rattle.lists.specs.Every.{some_append}
 use Rattle.lists.specs.Numbered.{map_at_at, map_at_same, map_at_set}
 use Rattle.kinds.specs.Limits.{all_ecbs}
@@ -43,7 +43,7 @@ module _ (es : List Ecb) (n : ℕ) (h : length es ≡ all_ecbs) (k : all_ecbs �
 abbrev pub first_ecbs : EcbList → ℕ → Ecbs
 first_ecbs l k = record { count = l.count; ecbs = take k (ecbs_in l).ecbs }
 
-pub none_waited : (c : ℕ) (l : EcbList) (n : ℕ) (es : List Ecb) → es ≡ mapAt (wait_set c (first_ecbs l 0)) n es
+pub none_waited : (c : ℕ) (l : EcbList) (n : ℕ) (es : List Ecb) → es ≡ map_at (wait_set c (first_ecbs l 0)) n es
 unfolding wait_set pick
 none_waited c l n [] = refl
 none_waited c l n (x ∷ es) = ap (λ (r : List Ecb). x ∷ r) (none_waited c l (n + 1) es)
@@ -78,9 +78,9 @@ module _ (c : ℕ) {l : EcbList} {n : ℕ} (s : Shown l n) (i : ℕ) (h : i < n)
       rw (listed_too (number_at l i) true (eq-eqb (number_at l i) (number_at l i) refl), or-true)
       (again c x x.complete (some (eqb (number_at l i)) (take i (ecbs_in l).ecbs)) refl)
 
-  module _ (es t : List Ecb) (v : t ≡ mapAt (wait_set c (first_ecbs l i)) 0 es) (z : length es ≡ all_ecbs) where
+  module _ (es t : List Ecb) (v : t ≡ map_at (wait_set c (first_ecbs l i)) 0 es) (z : length es ≡ all_ecbs) where
     pub waited_here : (y : Ecb) → number_at l i < all_ecbs → y ≡ waited_by c (get_or t (number_at l i) no_ecb)
-        → set t (number_at l i) y ≡ mapAt (wait_set c (first_ecbs l (i + 1))) 0 es
+        → set t (number_at l i) y ≡ map_at (wait_set c (first_ecbs l (i + 1))) 0 es
     waited_here y k w =
         let m = number_at l i in
         let o : 0 + m ≡ m = omega arith in
@@ -92,7 +92,7 @@ module _ (c : ℕ) {l : EcbList} {n : ℕ} (s : Shown l n) (i : ℕ) (h : i < n)
         ∙ ap (waited_by c) (map_at_at (wait_set c (first_ecbs l i)) 0 es no_ecb m (omega arith))
         ∙ rw o (this_one (get_or es m no_ecb)))
 
-    pub waited_past : all_ecbs ≤ number_at l i → t ≡ mapAt (wait_set c (first_ecbs l (i + 1))) 0 es
+    pub waited_past : all_ecbs ≤ number_at l i → t ≡ map_at (wait_set c (first_ecbs l (i + 1))) 0 es
     waited_past k =
         v
         ∙ map_at_same (wait_set c (first_ecbs l i)) (wait_set c (first_ecbs l (i + 1))) 0 es

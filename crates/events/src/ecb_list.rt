@@ -1,7 +1,7 @@
 // The ECBs beside a WAIT: the tests of the list, and what it does to the event control blocks.
 // A list shows as many numbers as its count says, and 16 at most; a number that has no ECB counts as the word zero.
 ghost use Rattle.std.specs.Prelude.{◌≡◌, ℕ, eqb, ltb, length, drop};
-ghost use Rattle.lists.specs.Lists.{every, some, distinct, mapAt};
+ghost use Rattle.lists.specs.Lists.{every, some, distinct, map_at};
 ghost use Rattle.kinds.specs.Ranges.{ecb_good};
 ghost use Rattle.rules.specs.Events.{ecbs_good, ecb_at, wait_bit};
 ghost use Rattle.rules.specs.Wait.{wait_verdict, complete_of, wait_set};
@@ -161,7 +161,7 @@ fn waited_by(x: Ecb, c: TaskNumber) -> Ecb
 
 // The wait bit is set in each listed ECB that is not complete.
 pub fn wait_set(e: EcbTable, c: TaskNumber, l: EcbList) -> EcbTable
-    ensures { result ≡ ecb_table_of (mapAt (wait_set c.0 (ecbs_in l)) 0 e.ecbs) }
+    ensures { result ≡ ecb_table_of (map_at (wait_set c.0 (ecbs_in l)) 0 e.ecbs) }
 {
     let n = listed(l);
     let mut r = e;

@@ -7,7 +7,7 @@ use Rattle.rules.specs.Control.{Entry, of_task, has_entry, queue_of}
 use Rattle.rules.specs.Rings.{waits_for}
 use Rattle.rules.specs.Steps.{Step}
 use Rattle.rules.specs.Serve.{Asked}
-use Rattle.rules.specs.Reading.{Turn, nothing, queue_read, one_at_aTime}
+use Rattle.rules.specs.Reading.{Turn, nothing, queue_read, one_at_a_time}
 use Rattle.rules.specs.DemandThree.{leading_run, waits_in, stands_in}
 use Rattle.rules.specs.Opened.{rules_open}
 use Rattle.history.specs.Samples.{turns_by, comes_to, start, x, y, served, owners_of, orderly, crossed, behind_owners}
@@ -24,13 +24,13 @@ abbrev pub left : List Asked → Step
 left l = comes_to served start l
 
 -- 1: the habit is kept and there are waiters, so that one who is not waiting must be there: 3 is
-pub orderly_run : (one_at_aTime nothing (turns orderly) ≡ true)
+pub orderly_run : (one_at_a_time nothing (turns orderly) ≡ true)
     × (map (waits_in (left orderly)) (2 ∷ 3 ∷ 4 ∷ []) ≡ true ∷ false ∷ true ∷ []) × (owners_of y (left orderly) ≡ 3 ∷ [])
 unfolding rules_open
 orderly_run = (refl, refl, refl)
 
 -- 2: the habit is broken, a weaker one is kept, and the tasks wait for each other
-pub crossed_run : (one_at_aTime nothing (turns crossed) ≡ false) × (weak_habit nothing (turns crossed) ≡ true)
+pub crossed_run : (one_at_a_time nothing (turns crossed) ≡ false) × (weak_habit nothing (turns crossed) ≡ true)
     × (waits_for (queue_read (turns crossed)) 2 3 ≡ true) × (waits_for (queue_read (turns crossed)) 3 2 ≡ true)
 unfolding rules_open
 crossed_run = (refl, refl, refl, refl)
@@ -38,14 +38,14 @@ crossed_run = (refl, refl, refl, refl)
 -- with HAVE: both are answered 4, what they queue breaks the habit, and the tasks wait for each other. A habit that
 -- does not hear the 4 is kept.
 pub have_crossed_run : (map (λ (u : Turn). u.number) (turns have_crossed) ≡ 0 ∷ 0 ∷ 0 ∷ 0 ∷ 4 ∷ 4 ∷ [])
-    × (one_at_aTime nothing (turns have_crossed) ≡ false) × (deaf_habit nothing (turns have_crossed) ≡ true)
+    × (one_at_a_time nothing (turns have_crossed) ≡ false) × (deaf_habit nothing (turns have_crossed) ≡ true)
     × (waits_for (queue_read (turns have_crossed)) 2 3 ≡ true) × (waits_for (queue_read (turns have_crossed)) 3 2 ≡ true)
 unfolding rules_open
 have_crossed_run = (refl, refl, refl, refl, refl)
 
 -- a HAVE that queues nothing is answered 4 too, and the habit is kept
 pub have_skipped_run : (map (λ (u : Turn). u.number) (turns have_skipped) ≡ 0 ∷ 0 ∷ 0 ∷ 0 ∷ 4 ∷ [])
-    × (one_at_aTime nothing (turns have_skipped) ≡ true)
+    × (one_at_a_time nothing (turns have_skipped) ≡ true)
     × (map (λ (e : Entry). e.task) (left have_skipped).queue ≡ 2 ∷ 3 ∷ [])
     × (map (waits_in (left have_skipped)) (2 ∷ 3 ∷ []) ≡ false ∷ true ∷ [])
 unfolding rules_open

@@ -6,7 +6,7 @@ use Rattle.lists.specs.Lists.{some}
 use Rattle.lists.specs.Bools.{never}
 use Rattle.rules.specs.Control.{Entry, of_task, is_for}
 use Rattle.rules.specs.DemandThree.{DemandThree}
-use Rattle.rules.specs.Reading.{queue_read, one_at_aTime}
+use Rattle.rules.specs.Reading.{queue_read, one_at_a_time}
 use Rattle.history.specs.Samples.{turns_by, comes_to, start, x, y, served, crossed, have_crossed, have_skipped}
 use Rattle.history.specs.Samples.{behind_owners, owner_detached, asks_once, changes, two_ask, second}
 use Rattle.history.specs.Impostors.{Ringless, weak_habit, deaf_habit, Tells, deaf_read, deaf_to_four, skips_nothing}
@@ -17,7 +17,7 @@ use Rattle.history.proofs.Examples.{run_of, starts, crossed_ring, have_crossed_r
 
 -- WHAT DEMAND 3 GIVES of the habit, the reading and the services
 
-pub habit_ringless : DemandThree → Ringless one_at_aTime
+pub habit_ringless : DemandThree → Ringless one_at_a_time
 habit_ringless d s t us f r = (d s t us f r).ringless
 
 pub reading_tells : DemandThree → Tells queue_read

@@ -13,7 +13,7 @@ use Rattle.kinds.specs.declared.replies.Gate.{Gate}
 use Rattle.kinds.specs.declared.replies.Gate.TheVariants.{Open}
 use Rattle.rules.specs.Steps.{Step, untouched, done_with}
 use Rattle.rules.specs.Codes.{written_on}
-use Rattle.rules.specs.Reading.{Turn, nothing, queue_read, one_at_aTime}
+use Rattle.rules.specs.Reading.{Turn, nothing, queue_read, one_at_a_time}
 use Rattle.rules.specs.Reports.{StuckTask, ItemList, itemised, stuck_item, stuck_tasks, stuck_list, report_gate, reported}
 use Rattle.rules.specs.Reports.{stuck_report}
 use Rattle.rules.specs.DemandThree.{Run, Fresh}
@@ -28,7 +28,7 @@ opens : (t : Step) (space : ℕ) → t.over ≡ false → report_gate t nobody s
 unfolding report_gate pick
 opens t space o = rw (o, le-ltb space 0 (omega arith))
 
-module _ (s t : Step) (us : List Turn) (f : Fresh s) (r : Run s us t) (habit : one_at_aTime nothing us ≡ true) where
+module _ (s t : Step) (us : List Turn) (f : Fresh s) (r : Run s us t) (habit : one_at_a_time nothing us ≡ true) where
   pub nobody_stuck : stuck_tasks t.queue ≡ []
   nobody_stuck =
       let d = demand_three s t us f r in

@@ -4,7 +4,7 @@ use mathlib.Core.Bool.{not, ◌&&◌, ◌||◌}
 use mathlib.Core.List.{List, [], ◌∷◌}
 use native.Mathlib.Omega.{arith}
 use Rattle.lists.specs.Pick.{pick}
-use Rattle.lists.specs.Lists.{every, some, keep, everyAt, mapAt, alike}
+use Rattle.lists.specs.Lists.{every, some, keep, every_at, map_at, alike}
 use Rattle.lists.specs.Tables.{padded}
 use Rattle.kinds.specs.Limits.{highest_task}
 use Rattle.kinds.specs.Tasks.{no_task, is_ready, in_resource_wait, waits, with_condition}
@@ -63,7 +63,7 @@ entries_live_ready_only =
 -- a task may wait that lacks nothing: 2 waits, and there is no entry
 pub waits_good_waiting_for_nothing :
     RuledOut (λ k. fits-Queue ⊗ fits-TaskTable ⊗ fits_end) waits_good.Pre waits_good.Post
-    (λ k a. everyAt (λ n (t : Task). in_resource_wait t.condition || not (lacks n (entries_in a.0))) 1
+    (λ k a. every_at (λ n (t : Task). in_resource_wait t.condition || not (lacks n (entries_in a.0))) 1
     a.1.0.places)
 unfolding tables_open
 waits_good_waiting_for_nothing =
@@ -72,7 +72,7 @@ waits_good_waiting_for_nothing =
 -- a task may go on that lacks control: 2 is ready
 pub waits_good_ready_without_control :
     RuledOut (λ k. fits-Queue ⊗ fits-TaskTable ⊗ fits_end) waits_good.Pre waits_good.Post
-    (λ k a. everyAt (λ n (t : Task). not (in_resource_wait t.condition) || lacks n (entries_in a.0)) 1
+    (λ k a. every_at (λ n (t : Task). not (in_resource_wait t.condition) || lacks n (entries_in a.0)) 1
     a.1.0.places)
 unfolding tables_open
 waits_good_ready_without_control =
@@ -80,7 +80,7 @@ waits_good_ready_without_control =
 
 -- an ECB wait is taken for a resource wait: 2 is in one, and lacks nothing
 pub waits_good_of_either_kind : RuledOut (λ k. fits-Queue ⊗ fits-TaskTable ⊗ fits_end) waits_good.Pre waits_good.Post
-    (λ k a. everyAt (λ n (t : Task). alike (waits t.condition) (lacks n (entries_in a.0))) 1 a.1.0.places)
+    (λ k a. every_at (λ n (t : Task). alike (waits t.condition) (lacks n (entries_in a.0))) 1 a.1.0.places)
 unfolding tables_open
 waits_good_of_either_kind = wrong_at tt (stored_entries [], (tasks (EcbWait 1), tt)) refl (omega arith) not refl refl
 
@@ -110,7 +110,7 @@ wake_nobody =
 
 -- whoever has control of something wakes: 2 owns y, and waits for x
 pub wake_at_the_first_grant : RuledOut (λ k. fits-Queue ⊗ fits-TaskTable ⊗ fits_end) wake.Pre wake.Post
-    (λ k a. task_table_of (mapAt (λ n (t : Task).
+    (λ k a. task_table_of (map_at (λ n (t : Task).
     pick (in_resource_wait t.condition && (not (lacks n (entries_in a.0))
     || some (of_task n) (holding [] (entries_in a.0))))
     (with_condition t Ready) t) 1 a.1.0.places))

@@ -7,7 +7,7 @@ use native.Mathlib.Omega.{arith}
 use lib.Dec.{eqb, leb}
 use lib.ListN.{set}
 use Rattle.lists.specs.Pick.{pick}
-use Rattle.lists.specs.Lists.{every, everyAt, howMany}
+use Rattle.lists.specs.Lists.{every, every_at, how_many}
 use Rattle.kinds.specs.Ranges.{task_good}
 use Rattle.kinds.specs.Ecbs.{no_ecb}
 use Rattle.kinds.specs.Tasks.{is_ready, in_ecb_wait, waits}
@@ -77,7 +77,7 @@ at_most (EcbWait n) has = leb n has
 at_most Ended has = true
 
 pub needs_good_without_a_post : RuledOut (λ k. fits-EcbTable ⊗ fits-TaskTable ⊗ fits_end) needs_good.Pre needs_good.Post
-    (λ k a. everyAt (λ n (x : Task). at_most x.condition (howMany (waited_on_by n) a.0.ecbs)) 1 a.1.0.places)
+    (λ k a. every_at (λ n (x : Task). at_most x.condition (how_many (waited_on_by n) a.0.ecbs)) 1 a.1.0.places)
 unfolding tables_open
 needs_good_without_a_post = record {
   lifetimes = tt;
@@ -90,7 +90,7 @@ needs_good_without_a_post = record {
 -- other tasks' ECBs count too: 2 needs 2 posts and has ECB 0 alone, ECB 1 is 3's
 pub needs_good_by_all_wait_bits :
     RuledOut (λ k. fits-EcbTable ⊗ fits-TaskTable ⊗ fits_end) needs_good.Pre needs_good.Post
-    (λ k a. everyAt (λ n (x : Task). need_good x.condition (howMany wait_bit a.0.ecbs)) 1 a.1.0.places)
+    (λ k a. every_at (λ n (x : Task). need_good x.condition (how_many wait_bit a.0.ecbs)) 1 a.1.0.places)
 unfolding tables_open
 needs_good_by_all_wait_bits = record {
   lifetimes = tt;

@@ -7,12 +7,12 @@ use native.Mathlib.Omega.{arith}
 use lib.Dec.{eqb, leb}
 use lib.ListN.{length, get_or, set, take, replicate}
 use Rattle.lists.specs.Pick.{pick}
-use Rattle.lists.specs.Lists.{every, howMany}
+use Rattle.lists.specs.Lists.{every, how_many}
 use Rattle.kinds.specs.Limits.{highest_task, highest_ecb, all_ecbs, highest_end_code, highest_post_code}
 use Rattle.kinds.specs.Ranges.{end_code_good, post_code_good}
 use Rattle.kinds.specs.Ecbs.{no_ecb}
 use Rattle.kinds.specs.declared.ecbs.Ecb.{Ecb}
-use Rattle.rules.specs.Events.{ecb_at, wait_bit, with_waiter, completed as completedOf}
+use Rattle.rules.specs.Events.{ecb_at, wait_bit, with_waiter, completed as completed_of}
 use Rattle.rules.specs.SoundEcbs.{zero_ecb}
 use Rattle.ecbs.specs.Blocks.{ecb_table_of, no_events, tally_from, tally_of}
 use Rattle.ecbs.specs.declared.EcbTable.{EcbTable}
@@ -35,7 +35,7 @@ use Rattle.impostors.specs.Parts.{events, awaited}
 
 -- ECB 63 alone is complete, with code 7
 abbrev last_complete : EcbTable
-last_complete = ecb_table_of (set no_events highest_ecb (completedOf 7))
+last_complete = ecb_table_of (set no_events highest_ecb (completed_of 7))
 
 -- task 1 waits on each
 pub empty_awaited_by_task_1 : RuledOut (λ k. fits_end) empty.Pre empty.Post
@@ -45,7 +45,7 @@ empty_awaited_by_task_1 = wrong_at tt tt refl tt (λ e. wait_bit (ecb_at e.ecbs 
 
 -- each is complete, with code 0
 pub empty_all_complete : RuledOut (λ k. fits_end) empty.Pre empty.Post
-    (λ k a. ecb_table_of (replicate all_ecbs (completedOf 0)))
+    (λ k a. ecb_table_of (replicate all_ecbs (completed_of 0)))
 unfolding tables_open
 empty_all_complete = wrong_at tt tt refl tt (λ e. (ecb_at e.ecbs 0).complete) refl refl
 
@@ -54,7 +54,7 @@ pub at_one_place_before : RuledOut (λ k. fits-EcbTable ⊗ fits-EcbNumber ⊗ f
     (λ k a. ecb_at a.0.ecbs (a.1.0.0 - 1))
 unfolding tables_open
 at_one_place_before =
-    wrong_at tt (events (no_ecb ∷ completedOf 7 ∷ []), (ecb 1, tt)) refl tt (λ x. not x.complete) refl refl
+    wrong_at tt (events (no_ecb ∷ completed_of 7 ∷ []), (ecb 1, tt)) refl tt (λ x. not x.complete) refl refl
 
 -- a number that has no ECB is taken for ECB 63
 pub at_64_is_ecb_63 : RuledOut (λ k. fits-EcbTable ⊗ fits-EcbNumber ⊗ fits_end) at.Pre at.Post
@@ -67,13 +67,13 @@ pub word_bits_exchanged : RuledOut (λ k. fits-Ecb ⊗ fits_end) word.Pre word.P
     (λ k a. cond (wait_bit a.0) (highest_post_code + 1) 0 +
     (cond a.0.complete (2 * (highest_post_code + 1)) 0 + a.0.code))
 unfolding tables_open
-word_bits_exchanged = wrong_at tt (completedOf 7, tt) refl tt (eqb 0x8000_0007) refl refl
+word_bits_exchanged = wrong_at tt (completed_of 7, tt) refl tt (eqb 0x8000_0007) refl refl
 
 -- bit 0 is taken for the lowest: code 7, complete, gives 30
 pub word_bit_0_lowest : RuledOut (λ k. fits-Ecb ⊗ fits_end) word.Pre word.Post
     (λ k a. cond (wait_bit a.0) 1 0 + (cond a.0.complete 2 0 + 4 * a.0.code))
 unfolding tables_open
-word_bit_0_lowest = wrong_at tt (completedOf 7, tt) refl tt (eqb 30) refl refl
+word_bit_0_lowest = wrong_at tt (completed_of 7, tt) refl tt (eqb 30) refl refl
 
 -- the highest number is taken for the count: 64 ECBs do not fit
 pub ecbs_fit_when_63 : RuledOut (λ k. fits-EcbTable ⊗ fits_end) ecbs_fit.Pre ecbs_fit.Post
@@ -83,7 +83,7 @@ ecbs_fit_when_63 = wrong_at tt (events [], tt) refl tt not refl refl
 
 -- only complete ECBs are counted: none, and not 64
 pub ecbs_fit_counts_the_complete : RuledOut (λ k. fits-EcbTable ⊗ fits_end) ecbs_fit.Pre ecbs_fit.Post
-    (λ k a. eqb (howMany (λ (e : Ecb). e.complete) a.0.ecbs) all_ecbs)
+    (λ k a. eqb (how_many (λ (e : Ecb). e.complete) a.0.ecbs) all_ecbs)
 unfolding tables_open
 ecbs_fit_counts_the_complete = record {
   lifetimes = tt;
@@ -105,13 +105,13 @@ pub words_good_waited_on_and_complete : RuledOut (λ k. fits-EcbTable ⊗ fits_e
     (λ k a. every (λ (x : Ecb). (x.complete || eqb x.code 0) && post_code_good x.code) a.0.ecbs)
 unfolding tables_open
 words_good_waited_on_and_complete =
-    wrong_at tt (events (with_waiter (completedOf 7) 2 ∷ []), tt) refl tt (λ b. b) refl refl
+    wrong_at tt (events (with_waiter (completed_of 7) 2 ∷ []), tt) refl tt (λ b. b) refl refl
 
 -- a complete ECB may have any code
 pub words_good_any_code : RuledOut (λ k. fits-EcbTable ⊗ fits_end) words_good.Pre words_good.Post
     (λ k a. every (λ (x : Ecb). not (wait_bit x && x.complete) && (x.complete || eqb x.code 0)) a.0.ecbs)
 unfolding tables_open
-words_good_any_code = wrong_at tt (events (completedOf 0x4000_0000 ∷ []), tt) refl tt (λ b. b) refl refl
+words_good_any_code = wrong_at tt (events (completed_of 0x4000_0000 ∷ []), tt) refl tt (λ b. b) refl refl
 
 -- the wait bit is not looked at: task 2 waits on ECB 0
 pub all_zero_although_waited_on : RuledOut (λ k. fits-EcbTable ⊗ fits_end) all_zero.Pre all_zero.Post
@@ -131,7 +131,7 @@ pub with_ecb_one_before :
     (λ k a. ecb_table_of (set a.0.ecbs (a.1.0.0 - 1) a.1.1.0))
 unfolding tables_open
 with_ecb_one_before =
-    wrong_at tt (events [], (ecb 1, (completedOf 7, tt))) refl (omega arith) (λ e. not (ecb_at e.ecbs 1).complete)
+    wrong_at tt (events [], (ecb 1, (completed_of 7, tt))) refl (omega arith) (λ e. not (ecb_at e.ecbs 1).complete)
     refl refl
 
 -- a complete ECB stays as it is, here too: ECB 1 is not cleared
@@ -141,7 +141,7 @@ pub with_ecb_not_when_complete :
     (ecb_table_of (set a.0.ecbs a.1.0.0 a.1.1.0)))
 unfolding tables_open
 with_ecb_not_when_complete =
-    wrong_at tt (events (no_ecb ∷ completedOf 7 ∷ []), (ecb 1, (no_ecb, tt))) refl (omega arith)
+    wrong_at tt (events (no_ecb ∷ completed_of 7 ∷ []), (ecb 1, (no_ecb, tt))) refl (omega arith)
     (λ e. (ecb_at e.ecbs 1).complete) refl refl
 
 -- a post of code 0 leaves it incomplete
@@ -152,7 +152,7 @@ completed_not_by_code_0 = wrong_at tt (0, tt) refl tt (λ x. not x.complete) ref
 
 -- its code is held to 4,095, the highest of END
 pub completed_held_to_4095 : RuledOut (λ k. fits_u32 ⊗ fits_end) completed.Pre completed.Post
-    (λ k a. completedOf (pick (end_code_good a.0) a.0 highest_end_code))
+    (λ k a. completed_of (pick (end_code_good a.0) a.0 highest_end_code))
 unfolding tables_open
 completed_held_to_4095 = wrong_at tt (5000, tt) refl tt (λ x. eqb x.code 4095) refl refl
 

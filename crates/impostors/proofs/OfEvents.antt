@@ -6,7 +6,7 @@ use mathlib.Core.List.{[], ◌∷◌}
 use lib.Dec.{eqb, leb}
 use lib.ListN.{set}
 use Rattle.lists.specs.Pick.{pick}
-use Rattle.lists.specs.Lists.{mapAt}
+use Rattle.lists.specs.Lists.{map_at}
 use Rattle.kinds.specs.Ranges.{ecb_good}
 use Rattle.kinds.specs.Tasks.{is_ready, in_ecb_wait, with_condition}
 use Rattle.kinds.specs.declared.ecbs.EcbList.{EcbList}
@@ -79,14 +79,14 @@ wait_by a f =
     making (wait_verdict a.0.ecbs.ecbs (ecbs_in a.1.1.0) a.1.1.1.0) a.0 (f (step_of a.0))
 
 abbrev waiting : Waits → (ℕ → ℕ → Bool) → (ℕ → ℕ → ℕ) → Step → Outcome Step
-waiting a goesOn posts s =
+waiting a goes_on posts s =
     let n = a.1.1.1.0 in
     let w = a.1.0.0 in
     let c = complete_of s.ecbs (ecbs_in a.1.1.0) in
-    pick (goesOn c n) (done s)
+    pick (goes_on c n) (done s)
     (done (with_ecbs
     (with_tasks s (with_place s.tasks w (with_condition (place s.tasks w) (EcbWait (posts c n)))))
-    (mapAt (wait_set w (ecbs_in a.1.1.0)) 0 s.ecbs)))
+    (map_at (wait_set w (ecbs_in a.1.1.0)) 0 s.ecbs)))
 
 -- task 2 waits for n of ECBs 0, 1 and 2, of which ECB 0 is complete
 abbrev wait_for : ℕ → Waits
@@ -111,7 +111,7 @@ wait_served_goes_on_with_too_few =
 pub wait_served_bits_without_a_wait : RuledOut (λ k. fits-Waits) wait_served.Pre wait_served.Post
     (λ k a. wait_by a (λ s.
     but (wait_done s a.1.0 (ecbs_in a.1.1.0) a.1.1.1.0)
-    (λ u. with_ecbs u (mapAt (wait_set a.1.0.0 (ecbs_in a.1.1.0)) 0 s.ecbs))))
+    (λ u. with_ecbs u (map_at (wait_set a.1.0.0 (ecbs_in a.1.1.0)) 0 s.ecbs))))
 unfolding tables_open
 wait_served_bits_without_a_wait =
     wrong_at tt (wait_for 1) refl task_2 (λ o. wait_bit (ecb_at o.outcome.tables.ecbs.ecbs 1)) refl refl

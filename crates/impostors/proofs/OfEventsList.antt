@@ -6,7 +6,7 @@ use mathlib.Core.List.{List, [], ◌∷◌, map}
 use lib.Dec.{eqb, leb, ltb}
 use lib.ListN.{length}
 use Rattle.lists.specs.Pick.{pick}
-use Rattle.lists.specs.Lists.{some, every, howMany, mapAt}
+use Rattle.lists.specs.Lists.{some, every, how_many, map_at}
 use Rattle.kinds.specs.Limits.{longest_list}
 use Rattle.kinds.specs.Ranges.{ecb_good, count_good}
 use Rattle.kinds.specs.Ecbs.{no_ecb}
@@ -44,7 +44,7 @@ all_places l = record { count = longest_list; ecbs = map (λ (e : EcbNumber). e.
 
 -- every complete ECB is counted, listed or not: ECB 1 alone is listed, and there are two
 pub complete_of_all_ecbs : RuledOut (λ k. fits-EcbTable ⊗ fits-EcbList ⊗ fits_end) complete_of_fn.Pre complete_of_fn.Post
-    (λ k a. howMany (λ (x : Ecb). x.complete) a.0.ecbs)
+    (λ k a. how_many (λ (x : Ecb). x.complete) a.0.ecbs)
 unfolding tables_open
 complete_of_all_ecbs = record {
   lifetimes = tt;
@@ -124,7 +124,7 @@ set_in_all c l n x = pick (some (eqb n) l.ecbs) (with_waiter x c) x
 
 pub wait_set_in_a_complete_ecb :
     RuledOut (λ k. fits-EcbTable ⊗ fits-TaskNumber ⊗ fits-EcbList ⊗ fits_end) wait_set_fn.Pre wait_set_fn.Post
-    (λ k a. ecb_table_of (mapAt (set_in_all a.1.0.0 (ecbs_in a.1.1.0)) 0 a.0.ecbs))
+    (λ k a. ecb_table_of (map_at (set_in_all a.1.0.0 (ecbs_in a.1.1.0)) 0 a.0.ecbs))
 unfolding tables_open
 wait_set_in_a_complete_ecb =
     wrong_at tt (two_complete, (task 2, (ecbs_of (1 ∷ []), tt))) refl tt (λ e. wait_bit (ecb_at e.ecbs 1)) refl refl
@@ -132,7 +132,7 @@ wait_set_in_a_complete_ecb =
 -- places past the count are looked at: ECB 1 alone is listed, and ECB 0 is waited on
 pub wait_set_all_places :
     RuledOut (λ k. fits-EcbTable ⊗ fits-TaskNumber ⊗ fits-EcbList ⊗ fits_end) wait_set_fn.Pre wait_set_fn.Post
-    (λ k a. ecb_table_of (mapAt (wait_set a.1.0.0 (all_places a.1.1.0)) 0 a.0.ecbs))
+    (λ k a. ecb_table_of (map_at (wait_set a.1.0.0 (all_places a.1.1.0)) 0 a.0.ecbs))
 unfolding tables_open
 wait_set_all_places =
     wrong_at tt (events [], (task 2, (ecbs_of (1 ∷ []), tt))) refl tt (λ e. wait_bit (ecb_at e.ecbs 0)) refl refl

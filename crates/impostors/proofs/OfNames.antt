@@ -12,7 +12,7 @@ use Rattle.kinds.specs.Ranges.{between, minor_good, count_good}
 use Rattle.kinds.specs.declared.names.Name.{Name}
 use Rattle.kinds.specs.declared.names.NameList.{NameList}
 use Rattle.kinds.specs.declared.requests.Ret.TheVariants.{None, Use, Chng}
-use Rattle.rules.specs.Names.{Resource, Ask, Names, same_name, legal, is_system, names_of as namesAmong}
+use Rattle.rules.specs.Names.{Resource, Ask, Names, same_name, legal, is_system, names_of as names_among}
 use Rattle.rules.specs.Names.{names_good, asks_system}
 use Rattle.rules.specs.Enq.{asks_shared}
 use Rattle.rules.specs.Table.{named, shr, exc}
@@ -123,7 +123,7 @@ is_system_in_ascii = wrong_at tt (kept sysdsn, tt) refl tt not refl refl
 
 -- the tests of 101, with another test that no name stands twice
 abbrev good_by : (List Ask → Bool) → NameList → Bool
-good_by once l = count_good l.count && (every legal (namesAmong (names_in l)) && once (names_in l).asks)
+good_by once l = count_good l.count && (every legal (names_among (names_in l)) && once (names_in l).asks)
 
 -- two of a list are the same, names and modes
 abbrev same_ask : Ask → Ask → Bool
@@ -155,7 +155,7 @@ legal_once ns = every legal ns && distinct same_name ns
 
 -- a list without names passes
 pub names_good_none_passes : RuledOut (λ k. fits-NameList ⊗ fits_end) names_good_fn.Pre names_good_fn.Post
-    (λ k a. leb a.0.count longest_list && legal_once (namesAmong (names_in a.0)))
+    (λ k a. leb a.0.count longest_list && legal_once (names_among (names_in a.0)))
 unfolding tables_open
 names_good_none_passes = wrong_at tt (names_of [], tt) refl tt (λ b. b) refl refl
 
@@ -195,7 +195,7 @@ asks_system_first_name_only = wrong_at tt (names_of (exc x ∷ exc sysdsn ∷ []
 
 -- all names have to be the system's: of two one is
 pub asks_system_all_of_them : RuledOut (λ k. fits-NameList ⊗ fits_end) asks_system_fn.Pre asks_system_fn.Post
-    (λ k a. every is_system (namesAmong (names_in a.0)))
+    (λ k a. every is_system (names_among (names_in a.0)))
 unfolding tables_open
 asks_system_all_of_them = wrong_at tt (names_of (exc sysdsn ∷ exc x ∷ []), tt) refl (omega arith) not refl refl
 

@@ -119,25 +119,25 @@ entries o = entries_in o.outcome.tables.queue
 
 -- ENQ: its verdict, what the rules make, its codes and the area
 module _ (a : Given Ret) where
-  abbrev enqSays : Verdict
-  enqSays = enq_verdict (step a).queue (caller a) (ret a) (names a) (length (area a))
+  abbrev enq_says : Verdict
+  enq_says = enq_verdict (step a).queue (caller a) (ret a) (names a) (length (area a))
 
-  abbrev enqRight : Outcome Step
-  enqRight = enq_done (step a) (caller a) (ret a) (names a)
+  abbrev enq_right : Outcome Step
+  enq_right = enq_done (step a) (caller a) (ret a) (names a)
 
-  abbrev enqCodesOf : List ℕ
-  enqCodesOf = enq_codes (ret a) (step a).queue (caller a).0 (names a)
+  abbrev enq_codes_of : List ℕ
+  enq_codes_of = enq_codes (ret a) (step a).queue (caller a).0 (names a)
 
-  abbrev enqArea : List ℕ
-  enqArea = enq_leaves a.0.queue (caller a) (ret a) (names a) (area a)
+  abbrev enq_area : List ℕ
+  enq_area = enq_leaves a.0.queue (caller a) (ret a) (names a) (area a)
 
   -- with another outcome
-  abbrev enqMade : Outcome Step → Made × Given Ret
-  enqMade o = ends a enqSays o enqArea
+  abbrev enq_made : Outcome Step → Made × Given Ret
+  enq_made o = ends a enq_says o enq_area
 
 -- the caller goes on without control: 2 asks for x
 pub enq_served_goes_on_without_control : RuledOutWith (λ k. fits-Given fits-Ret) enq_served.Pre enq_served.Post
-    (λ k a. enqMade a (but (enqRight a) (λ u. with_tasks u (step a).tasks)))
+    (λ k a. enq_made a (but (enq_right a) (λ u. with_tasks u (step a).tasks)))
 unfolding tables_open
 enq_served_goes_on_without_control =
     wrong_result ([], tt) (on owned 2 None (points_of (exc x_at ∷ [])) []) refl (owned_admits_2, refl)
@@ -145,7 +145,7 @@ enq_served_goes_on_without_control =
 
 -- the entry that is queued is lost
 pub enq_served_entry_lost : RuledOutWith (λ k. fits-Given fits-Ret) enq_served.Pre enq_served.Post
-    (λ k a. enqMade a (but (enqRight a) (λ u. with_queue u (step a).queue)))
+    (λ k a. enq_made a (but (enq_right a) (λ u. with_queue u (step a).queue)))
 unfolding tables_open
 enq_served_entry_lost =
     wrong_result ([], tt) (on owned 2 None (points_of (exc x_at ∷ [])) []) refl (owned_admits_2, refl)
@@ -169,12 +169,12 @@ is_chng Chng = true
 -- under USE only the first code has to be 0
 abbrev by_first_code : Given Ret → Step
 by_first_code a =
-    pick (all_zero (take 1 (enqCodesOf a)))
+    pick (all_zero (take 1 (enq_codes_of a)))
     (requeued (step a) (with_tail (step a).queue (caller a).0 (names a).asks)) (step a)
 
 -- 2 asks by USE for y and x, with the codes 0 and 4, and is queued for y
 pub enq_served_by_the_first_code : RuledOutWith (λ k. fits-Given fits-Ret) enq_served.Pre enq_served.Post
-    (λ k a. enqMade a (but (enqRight a) (λ u. pick (is_use (ret a)) (by_first_code a) u)))
+    (λ k a. enq_made a (but (enq_right a) (λ u. pick (is_use (ret a)) (by_first_code a) u)))
 unfolding tables_open
 enq_served_by_the_first_code =
     wrong_result ([], tt) (on owned 2 Use (points_of (exc y_at ∷ exc x_at ∷ [])) (238 ∷ 238 ∷ [])) refl
@@ -183,7 +183,7 @@ enq_served_by_the_first_code =
 
 -- CHNG changes nothing: task 1 shares x and asks for it exclusive
 pub enq_served_chng_leaves_it_shared : RuledOutWith (λ k. fits-Given fits-Ret) enq_served.Pre enq_served.Post
-    (λ k a. enqMade a (but (enqRight a) (λ u. pick (is_chng (ret a)) (step a) u)))
+    (λ k a. enq_made a (but (enq_right a) (λ u. pick (is_chng (ret a)) (step a) u)))
 unfolding tables_open
 enq_served_chng_leaves_it_shared =
     wrong_result ([], tt) (on shared 1 Chng (points_of (exc x_at ∷ [])) (238 ∷ [])) refl (shared_admits, refl)
@@ -191,8 +191,8 @@ enq_served_chng_leaves_it_shared =
 
 -- NONE writes codes: 2 asks for y, with an area of one byte
 pub enq_served_codes_under_none : RuledOutWith (λ k. fits-Given fits-Ret) enq_served.Pre enq_served.Post
-    (λ k a. ends a (enqSays a) (enqRight a)
-    (codes_through Open (enqSays a) (area a) (written_on (enqCodesOf a) (area a))))
+    (λ k a. ends a (enq_says a) (enq_right a)
+    (codes_through Open (enq_says a) (area a) (written_on (enq_codes_of a) (area a))))
 unfolding tables_open
 enq_served_codes_under_none =
     wrong_area ([], tt) (on owned 2 None (points_of (exc y_at ∷ [])) (238 ∷ [])) refl (owned_admits_2, refl)
@@ -200,7 +200,7 @@ enq_served_codes_under_none =
 
 -- HAVE, wrong in each of the ways of Haves
 abbrev having : Doing → Given Ret → Made × Given Ret
-having f a = enqMade a (if_have (ret a) (f (step a) (caller a).0 (names a)) (enqRight a))
+having f a = enq_made a (if_have (ret a) (f (step a) (caller a).0 (names a)) (enq_right a))
 
 -- 1 asks for x exclusive, for y, and for z: the codes are 8, 0 and 0, and it waits for y
 abbrev asks_mixed : Given Ret
@@ -258,25 +258,25 @@ enq_served_have_answers_0 =
 
 -- DEQ: its verdict, what the rules make, its codes and the area
 module _ (a : Given DeqRet) where
-  abbrev deqSays : Verdict
-  deqSays = deq_verdict (step a).queue (caller a) (ret a) (names a) (length (area a))
+  abbrev deq_says : Verdict
+  deq_says = deq_verdict (step a).queue (caller a) (ret a) (names a) (length (area a))
 
-  abbrev deqRight : Outcome Step
-  deqRight = deq_done (step a) (caller a) (ret a) (names a)
+  abbrev deq_right : Outcome Step
+  deq_right = deq_done (step a) (caller a) (ret a) (names a)
 
-  abbrev deqCodesOf : List ℕ
-  deqCodesOf = deq_codes (ret a) (step a).queue (caller a).0 (names a)
+  abbrev deq_codes_of : List ℕ
+  deq_codes_of = deq_codes (ret a) (step a).queue (caller a).0 (names a)
 
-  abbrev deqArea : List ℕ
-  deqArea = deq_leaves a.0.queue (caller a) (ret a) (names a) (area a)
+  abbrev deq_area : List ℕ
+  deq_area = deq_leaves a.0.queue (caller a) (ret a) (names a) (area a)
 
   -- with another outcome
-  abbrev deqMade : Outcome Step → Made × Given DeqRet
-  deqMade o = ends a deqSays o deqArea
+  abbrev deq_made : Outcome Step → Made × Given DeqRet
+  deq_made o = ends a deq_says o deq_area
 
 -- nobody is granted what was released: task 1 gives x back, for which 2 waits
 pub deq_served_grants_nothing : RuledOutWith (λ k. fits-Given fits-DeqRet) deq_served.Pre deq_served.Post
-    (λ k a. deqMade a (but (deqRight a) (λ u. with_tasks u (step a).tasks)))
+    (λ k a. deq_made a (but (deq_right a) (λ u. with_tasks u (step a).tasks)))
 unfolding tables_open
 deq_served_grants_nothing =
     wrong_result ([], tt) (on awaited 1 DeqNone (points_of (exc x_at ∷ [])) []) refl (awaited_admits, refl)
@@ -284,7 +284,7 @@ deq_served_grants_nothing =
 
 -- the entry that is given back stays in the queue
 pub deq_served_entry_stays : RuledOutWith (λ k. fits-Given fits-DeqRet) deq_served.Pre deq_served.Post
-    (λ k a. deqMade a (but (deqRight a) (λ u. with_queue u (step a).queue)))
+    (λ k a. deq_made a (but (deq_right a) (λ u. with_queue u (step a).queue)))
 unfolding tables_open
 deq_served_entry_stays =
     wrong_result ([], tt) (on awaited 1 DeqNone (points_of (exc x_at ∷ [])) []) refl (awaited_admits, refl)
@@ -292,7 +292,7 @@ deq_served_entry_stays =
 
 -- the answer is 0 although a code is 8: task 1 gives y back, and has no entry for it
 pub deq_served_says_0_with_a_code_8 : RuledOutWith (λ k. fits-Given fits-DeqRet) deq_served.Pre deq_served.Post
-    (λ k a. deqMade a (done (deqRight a).tables))
+    (λ k a. deq_made a (done (deq_right a).tables))
 unfolding tables_open
 deq_served_says_0_with_a_code_8 =
     wrong_result ([], tt) (on owned 1 DeqHave (points_of (exc y_at ∷ [])) (238 ∷ [])) refl (owned_admits_1, refl)
@@ -300,7 +300,7 @@ deq_served_says_0_with_a_code_8 =
 
 -- nothing is released unless every code is 0: task 1 gives x and y back by HAVE, and has x only
 pub deq_served_all_or_nothing : RuledOutWith (λ k. fits-Given fits-DeqRet) deq_served.Pre deq_served.Post
-    (λ k a. deqMade a (but (deqRight a) (λ u. pick (all_zero (deqCodesOf a)) u (step a))))
+    (λ k a. deq_made a (but (deq_right a) (λ u. pick (all_zero (deq_codes_of a)) u (step a))))
 unfolding tables_open
 deq_served_all_or_nothing =
     wrong_result ([], tt) (on owned 1 DeqHave (points_of (exc x_at ∷ exc y_at ∷ [])) (238 ∷ 238 ∷ [])) refl
@@ -309,8 +309,8 @@ deq_served_all_or_nothing =
 
 -- the codes are found after the entries have gone: task 1 gives x back by HAVE, and the code is 8
 pub deq_served_codes_after_the_release : RuledOutWith (λ k. fits-Given fits-DeqRet) deq_served.Pre deq_served.Post
-    (λ k a. ends a (deqSays a) (deqRight a) (codes_through Open (deqSays a) (area a)
-    (deq_written (deqRight a).tables.queue (caller a) (ret a) (names a) (area a))))
+    (λ k a. ends a (deq_says a) (deq_right a) (codes_through Open (deq_says a) (area a)
+    (deq_written (deq_right a).tables.queue (caller a) (ret a) (names a) (area a))))
 unfolding tables_open
 deq_served_codes_after_the_release =
     wrong_area ([], tt) (on owned 1 DeqHave (points_of (exc x_at ∷ [])) (238 ∷ [])) refl (owned_admits_1, refl)

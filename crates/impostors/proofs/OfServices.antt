@@ -42,7 +42,7 @@ use Rattle.kinds.specs.declared.replies.Refusal.TheVariants.{ShortArea}
 use Rattle.rules.specs.Names as asked
 use Rattle.rules.specs.Names.{Resource, Ask, Names, names_of as resources, legal}
 use Rattle.rules.specs.Control.{Entry}
-use Rattle.rules.specs.Rings.{waits_for, leads_by, tasks_queued, stuck as stuckOf}
+use Rattle.rules.specs.Rings.{waits_for, leads_by, tasks_queued, stuck as stuck_of}
 use Rattle.rules.specs.Reports.{StuckTask, first_stuck_at, stuck_item, standing, queues_of, queue_item, ItemList, itemised}
 use Rattle.rules.specs.Reports.{stuck_list, queues_list, report_gate, reported, report_of, stuck_report}
 use Rattle.rules.specs.Reports.{queues_report}
@@ -950,10 +950,10 @@ all_tasks = numbers 1 highest_task
 
 -- a task that waits for a stuck one is listed: 4 stands behind 2 and 3
 abbrev stuck_or_behind : List Entry → ℕ → Bool
-stuck_or_behind q t = stuckOf q t || some (λ (k : ℕ). stuckOf q k && waits_for q t k) all_tasks
+stuck_or_behind q t = stuck_of q t || some (λ (k : ℕ). stuck_of q k && waits_for q t k) all_tasks
 
 abbrev listing_behind : Step → List ℕ → Served Step
-listing_behind = other_list (λ q. items_by (stuck_or_behind q) (stuckOf q) all_tasks q)
+listing_behind = other_list (λ q. items_by (stuck_or_behind q) (stuck_of q) all_tasks q)
 
 pub stuck_lists_who_is_behind : RuledOutWith (λ k. fits-Reports) stuck.Pre stuck.Post (λ k a. reporting a listing_behind)
 unfolding tables_open
@@ -964,7 +964,7 @@ abbrev falling : List ℕ
 falling = map (λ (n : ℕ). (highest_task + 1) - n) all_tasks
 
 abbrev listing_falling : Step → List ℕ → Served Step
-listing_falling = other_list (λ q. items_by (stuckOf q) (stuckOf q) falling q)
+listing_falling = other_list (λ q. items_by (stuck_of q) (stuck_of q) falling q)
 
 pub stuck_in_falling_order : RuledOutWith (λ k. fits-Reports) stuck.Pre stuck.Post (λ k a. reporting a listing_falling)
 unfolding tables_open
@@ -972,7 +972,7 @@ stuck_in_falling_order = stuck_otherwise listing_falling ring_of_two 6 refl (byt
 
 -- the partner is any task that is waited for: 4, for whom 2 waits first, is not stuck
 abbrev any_partner : Step → List ℕ → Served Step
-any_partner = other_list (λ q. items_by (stuckOf q) (λ t. true) all_tasks q)
+any_partner = other_list (λ q. items_by (stuck_of q) (λ t. true) all_tasks q)
 
 pub stuck_any_partner : RuledOutWith (λ k. fits-Reports) stuck.Pre stuck.Post (λ k a. reporting a any_partner)
 unfolding tables_open
@@ -983,7 +983,7 @@ abbrev made_exclusive : Entry → Entry
 made_exclusive e = record { task = e.task; exclusive = true; name = e.name }
 
 abbrev shared_counts : Step → List ℕ → Served Step
-shared_counts = other_list (λ q. items_by (stuckOf q) (stuckOf q) all_tasks (map made_exclusive q))
+shared_counts = other_list (λ q. items_by (stuck_of q) (stuck_of q) all_tasks (map made_exclusive q))
 
 pub stuck_shared_before_shared : RuledOutWith (λ k. fits-Reports) stuck.Pre stuck.Post (λ k a. reporting a shared_counts)
 unfolding tables_open

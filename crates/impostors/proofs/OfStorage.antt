@@ -6,7 +6,7 @@ use native.Mathlib.Omega.{arith}
 use lib.Dec.{eqb, leb, ltb}
 use lib.ListN.{take, drop, get_or, replicate}
 use Rattle.lists.specs.Pick.{pick}
-use Rattle.lists.specs.Lists.{keep, every, some, pairwise, sameBy}
+use Rattle.lists.specs.Lists.{keep, every, some, pairwise, same_by}
 use Rattle.kinds.specs.Limits.{most_areas}
 use Rattle.kinds.specs.Ranges.{between}
 use Rattle.kinds.specs.Areas.{no_area}
@@ -50,7 +50,7 @@ packed_one x = stored_packed (x ∷ []) _ refl (omega arith)
 
 -- a storage holds these areas, within its count
 abbrev holds : List Area → Storage → Bool
-holds l s = sameBy same_area (areas_in s) l
+holds l s = same_by same_area (areas_in s) l
 
 -- with other places
 abbrev among : Storage → List Area → Storage

@@ -235,10 +235,10 @@ by_end v f a = making v a.0 (done (ended_as f a))
 
 -- by another test of subtasks
 abbrev unless_has : (Task → Bool) → Ending → Verdict
-unless_has isOne a =
+unless_has is_one a =
     first_of
     (refuse OutOfRange (not (end_good a.1.1.0))
-    ∷ fail HasSubtasks (some isOne a.0.tasks.places)
+    ∷ fail HasSubtasks (some is_one a.0.tasks.places)
     ∷ [])
 
 -- subtasks do not stand in the way: 2, who has a daughter, ends

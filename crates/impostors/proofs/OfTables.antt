@@ -28,7 +28,7 @@ use Rattle.impostors.specs.Fitting.{fits-TaskTable, fits-Verdict, fits_end}
 use Rattle.impostors.specs.Opened.{tables_open}
 use Rattle.impostors.specs.Wrong.{RuledOut, wrong_at}
 use Rattle.impostors.specs.Samples.{after, owned, posted_once, one_area}
-use Rattle.impostors.specs.Parts.{goes as goesOn}
+use Rattle.impostors.specs.Parts.{goes as goes_on}
 
 -- SAMPLES: a fresh step; tasks 1 and 2, and 1 owns x; ECB 3 is complete with code 5; an area at 0; a step that is over
 -- with code 7
@@ -124,7 +124,7 @@ put_storage_and_fresh_ecbs =
 pub goes_by_a_refusal : RuledOut (λ k. fits-Reply ⊗ fits-AllTables ⊗ fits_end) goes.Pre goes.Post
     (λ k a. record { verdict = Refuse OutOfRange; reply = a.0; tables = a.1.0 })
 unfolding tables_open
-goes_by_a_refusal = wrong_at tt (Done, (fresh, tt)) refl tt (λ r. not (goesOn r.verdict)) refl refl
+goes_by_a_refusal = wrong_at tt (Done, (fresh, tt)) refl tt (λ r. not (goes_on r.verdict)) refl refl
 
 -- 0 is answered, whatever the reply: 4
 pub goes_answers_0 : RuledOut (λ k. fits-Reply ⊗ fits-AllTables ⊗ fits_end) goes.Pre goes.Post
@@ -143,7 +143,7 @@ goes_with_fresh_tables =
 pub stays_goes_on : RuledOut (λ k. fits-Verdict ⊗ fits-AllTables ⊗ fits_end) stays.Pre stays.Post
     (λ k a. record { verdict = Go; reply = Done; tables = a.1.0 })
 unfolding tables_open
-stays_goes_on = wrong_at tt (Refuse OutOfRange, (fresh, tt)) refl tt (λ r. goesOn r.verdict) refl refl
+stays_goes_on = wrong_at tt (Refuse OutOfRange, (fresh, tt)) refl tt (λ r. goes_on r.verdict) refl refl
 
 -- the reply beside a refusal is 4
 pub stays_answers_4 : RuledOut (λ k. fits-Verdict ⊗ fits-AllTables ⊗ fits_end) stays.Pre stays.Post

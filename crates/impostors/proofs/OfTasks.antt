@@ -7,7 +7,7 @@ use native.Mathlib.Omega.{arith}
 use lib.Dec.{eqb, leb}
 use lib.ListN.{get_or, set, replicate, take}
 use Rattle.lists.specs.Pick.{pick}
-use Rattle.lists.specs.Lists.{every, some, howMany, first_at}
+use Rattle.lists.specs.Lists.{every, some, how_many, first_at}
 use Rattle.kinds.specs.Limits.{highest_task}
 use Rattle.kinds.specs.Tasks.{no_task, is_free, is_live, is_ready}
 use Rattle.kinds.specs.declared.tasks.Task.{Task}
@@ -41,7 +41,7 @@ prior limit dispatching = row_of Ready 1 limit dispatching NoEcb
 -- the number is the count of the tasks in use, and one more: with 1 and 3 in use it is 3 and not 2
 pub lowest_free_counts_the_tasks :
     RuledOut (λ k. fits-TaskTable ⊗ fits_end) lowest_free.Pre lowest_free.Post
-    (λ k a. task (howMany in_use a.0.places + 1))
+    (λ k a. task (how_many in_use a.0.places + 1))
 unfolding tables_open
 lowest_free_counts_the_tasks = record {
   lifetimes = tt;

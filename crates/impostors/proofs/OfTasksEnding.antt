@@ -5,7 +5,7 @@ use mathlib.Core.Bool.{not, ◌&&◌, ◌||◌}
 use mathlib.Core.List.{List, [], ◌∷◌}
 use lib.Dec.{eqb}
 use Rattle.lists.specs.Pick.{pick}
-use Rattle.lists.specs.Lists.{mapAt}
+use Rattle.lists.specs.Lists.{map_at}
 use Rattle.kinds.specs.Tasks.{no_task, is_free, is_live}
 use Rattle.kinds.specs.declared.tasks.Task.{Task}
 use Rattle.rules.specs.Family.{with_place, condition_of, live, direct_subtask, below}
@@ -30,7 +30,7 @@ one_ended = tasks (first ∷ ready 1 ∷ ended 2 ∷ [])
 -- only the daughters of the task that ends go with it: 2 ends, and 4 stays
 abbrev only_daughters : List Task → ℕ → Task → List Task
 only_daughters ts c last =
-    mapAt (λ n x. pick (below ts c n && (eqb n c || direct_subtask ts c n)) (pick (eqb n c) last no_task) x) 1 ts
+    map_at (λ n x. pick (below ts c n && (eqb n c || direct_subtask ts c n)) (pick (eqb n c) last no_task) x) 1 ts
 
 pub end_tasks_only_daughters :
     RuledOut (λ k. fits-TaskTable ⊗ fits-TaskNumber ⊗ fits-Task ⊗ fits_end) end_tasks_fn.Pre end_tasks_fn.Post
@@ -48,7 +48,7 @@ end_tasks_of_nobody =
 
 -- only live tasks go: 2 ends, and the place of 3, which has ended before, is not free
 abbrev only_live : List Task → ℕ → Task → List Task
-only_live ts c last = mapAt (λ n x. pick (below ts c n && is_live x.condition) (pick (eqb n c) last no_task) x) 1 ts
+only_live ts c last = map_at (λ n x. pick (below ts c n && is_live x.condition) (pick (eqb n c) last no_task) x) 1 ts
 
 pub end_tasks_only_the_live :
     RuledOut (λ k. fits-TaskTable ⊗ fits-TaskNumber ⊗ fits-Task ⊗ fits_end) end_tasks_fn.Pre end_tasks_fn.Post

@@ -5,7 +5,7 @@ use mathlib.Core.Bool.{Bool, true, not, ◌&&◌, ◌||◌}
 use mathlib.Core.List.{List, [], ◌∷◌, ◌++◌, map}
 use lib.Dec.{eqb, leb, ltb}
 use lib.ListN.{length, take, replicate}
-use Rattle.lists.specs.Lists.{every, everyAt, howMany, numbers}
+use Rattle.lists.specs.Lists.{every, every_at, how_many, numbers}
 use Rattle.kinds.specs.Limits.{job_step_task, highest_task, highest_ecb}
 use Rattle.kinds.specs.Ranges.{priority_good}
 use Rattle.kinds.specs.Tasks.{no_task, is_free, is_live}
@@ -75,7 +75,7 @@ tasks_fit_32_places_refused = wrong_at tt (tasks (first ∷ []), tt) refl tt not
 
 -- only tasks in use are counted: one, and not 32
 pub tasks_fit_counts_the_tasks : RuledOut (λ k. fits-TaskTable ⊗ fits_end) tasks_fit.Pre tasks_fit.Post
-    (λ k a. eqb (howMany in_use a.0.places) highest_task)
+    (λ k a. eqb (how_many in_use a.0.places) highest_task)
 unfolding tables_open
 tasks_fit_counts_the_tasks = record {
   lifetimes = tt;
@@ -112,7 +112,7 @@ job_step_good_ended = wrong_at tt (tasks (under 0 Ended NoEcb ∷ []), tt) refl 
 
 -- of every task in use but task 1, another rule than that on its mother
 abbrev of_others : (ℕ → Task → Bool) → TaskTable → Bool
-of_others rule f = everyAt (λ n x. (is_free x.condition || eqb n job_step_task) || rule n x) 1 f.places
+of_others rule f = every_at (λ n x. (is_free x.condition || eqb n job_step_task) || rule n x) 1 f.places
 
 -- a mother may have ended: 2 has ended, and 3 is its subtask
 pub mothers_good_ended_mother : RuledOut (λ k. fits-TaskTable ⊗ fits_end) mothers_good.Pre mothers_good.Post
@@ -138,7 +138,7 @@ mothers_good_through_31_tasks =
 
 -- only live tasks are looked at: 2 has ended, and its mother 3 is free
 pub mothers_good_ended_task_passes : RuledOut (λ k. fits-TaskTable ⊗ fits_end) mothers_good.Pre mothers_good.Post
-    (λ k a. everyAt (λ n x. not (is_live x.condition) || mother_good a.0.places n x) 1 a.0.places)
+    (λ k a. every_at (λ n x. not (is_live x.condition) || mother_good a.0.places n x) 1 a.0.places)
 unfolding tables_open
 mothers_good_ended_task_passes =
     wrong_at tt (tasks (first ∷ under 3 Ended (ecb 5) ∷ []), tt) refl tt (λ b. b) refl refl

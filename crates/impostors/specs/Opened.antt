@@ -17,7 +17,7 @@ use Rattle.rings.specs.Listings.{report_reply, report_written}
 use Rattle.queue.specs.Flagging.{flags_of, all_set_but}
 use Rattle.ecbs.specs.Blocks.{tally_from}
 use Rattle.events.specs.Waits.{waited_by}
-use Rattle.storage.specs.Stored.{is_zero as isZeroArea, rest_zero as restZeroAreas, packed_areas}
+use Rattle.storage.specs.Stored.{is_zero as is_zero_area, rest_zero as rest_zero_areas, packed_areas}
 use Rattle.mainstorage.specs.Bars.{bar_of, next_at}
 use Rattle.mainstorage.specs.Found.{place_for}
 use Rattle.between.specs.Waiting.{wake_if}
@@ -33,6 +33,6 @@ unfoldable pub tables_open : Unit {0}
 unfolding rules_open once_from padded task_checked ecb_checked address_checked wake_at wipe_at shown spelling needed
     offset_in name_at fits_at new_at scanned holds points_to new_names is_zero rest_zero packed_entries marked_by with_mark
     report_reply report_written flags_of all_set_but tally_from
-    waited_by isZeroArea restZeroAreas packed_areas bar_of next_at place_for wake_if codes_of looks_of signals_of sound_tables
+    waited_by is_zero_area rest_zero_areas packed_areas bar_of next_at place_for wake_if codes_of looks_of signals_of sound_tables
     told body_of soundb answered answered_with served_of
 tables_open = tt

@@ -1,7 +1,7 @@
 -- THE SLIPS "we have already paid for", each as a whole service made from any other: of one kind of request it answers
 -- as the rules do but for the slip, and of all others as that service does.
 use Rattle.std.specs.Prelude.{ℕ, zero, suc, ◌/◌, ◌+◌, Bool, cond, not, ◌&&◌, List, [], ◌∷◌, leb, length, set}
-use Rattle.lists.specs.Lists.{some, every, mapAt}
+use Rattle.lists.specs.Lists.{some, every, map_at}
 use Rattle.kinds.specs.Limits.{region, doubleword, most_areas}
 use Rattle.kinds.specs.Tasks.{with_condition, in_resource_wait, is_live}
 use Rattle.kinds.specs.declared.replies.Refusal.TheVariants.{OutOfRange, NoAreaFree}
@@ -58,7 +58,7 @@ abbrev still_held : List Task → ℕ → Task → Task
 still_held ts n x = cond (in_resource_wait (condition_of ts n) && is_live x.condition) (with_condition x ResourceWait) x
 
 abbrev pub holding_back : Asking → Step → Served Step
-holding_back a s = but_served (ruled s a) (λ u. with_tasks u (mapAt (still_held s.tasks) 1 u.tasks))
+holding_back a s = but_served (ruled s a) (λ u. with_tasks u (map_at (still_held s.tasks) 1 u.tasks))
 
 abbrev pub forgets_held_back : Service → Service
 forgets_held_back f g =
@@ -70,7 +70,7 @@ abbrev woken_by : List Entry → ℕ → Task → Task
 woken_by held n x = cond (some (of_task n) held) (with_condition x (let_go x.condition)) x
 
 abbrev pub waking_early : Asking → Step → Served Step
-waking_early a s = but_served (ruled s a) (λ u. with_tasks u (mapAt (woken_by (holding [] u.queue)) 1 u.tasks))
+waking_early a s = but_served (ruled s a) (λ u. with_tasks u (map_at (woken_by (holding [] u.queue)) 1 u.tasks))
 
 abbrev pub wakes_at_first_grant : Service → Service
 wakes_at_first_grant f g =

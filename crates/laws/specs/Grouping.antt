@@ -4,7 +4,7 @@ use Rattle.std.specs.Prelude.{◌≡◌, refl, Bool, true, false, not, cond, ◌
 use Rattle.std.proofs.Common.{sym, ap, ap₂, ◌∙◌, append-nil, arith, length-append, eqb-true, eq-eqb}
 use Rattle.std.proofs.Math.Bool.{and_comm, and-false}
 use Rattle.std.proofs.lemmas.Bool.{not-true}
-use Rattle.lists.specs.Lists.{keep, every, some, distinct, firstsBy, gathered}
+use Rattle.lists.specs.Lists.{keep, every, some, distinct, firsts_by, gathered}
 use Rattle.lists.specs.Bools.{both, join, same_test, not_so, never}
 use Rattle.lists.specs.Keeping.{keep_append, keep_same, keep_all, keep_map, distinct_keep}
 use Rattle.laws.specs.Among.{some_same, some_kept, all_kept, eqb_swap}
@@ -84,17 +84,17 @@ module _ {A : Type 0} (same : A → A → Bool) where
 
   -- a list behind another adds those of its firsts that do not stand in the other
   firsts_behind : (xs ys : List A)
-      → firstsBy same (xs ++ ys)
-      ≡ firstsBy same xs ++ keep (λ (y : A). not (some (λ (x : A). same x y) xs)) (firstsBy same ys)
-  firsts_behind [] ys = sym (keep_all (firstsBy same ys))
+      → firsts_by same (xs ++ ys)
+      ≡ firsts_by same xs ++ keep (λ (y : A). not (some (λ (x : A). same x y) xs)) (firsts_by same ys)
+  firsts_behind [] ys = sym (keep_all (firsts_by same ys))
   firsts_behind (x ∷ xs) ys =
       ap (λ (r : List A). x ∷ r)
       (ap (keep other) (firsts_behind xs ys)
-      ∙ keep_append other (firstsBy same xs) (keep new (firstsBy same ys))
-      ∙ ap (λ (r : List A). keep other (firstsBy same xs) ++ r)
-      (keep_both other new (firstsBy same ys)
+      ∙ keep_append other (firsts_by same xs) (keep new (firsts_by same ys))
+      ∙ ap (λ (r : List A). keep other (firsts_by same xs) ++ r)
+      (keep_both other new (firsts_by same ys)
       ∙ keep_same (λ (y : A). new y && other y) (λ (y : A). not (same x y || some (λ (z : A). same z y) xs))
-      (firstsBy same ys) (λ y. neither (same x y) (some (λ (z : A). same z y) xs))))
+      (firsts_by same ys) (λ y. neither (same x y) (some (λ (z : A). same z y) xs))))
     where
       other : A → Bool
       other y = not (same x y)
@@ -118,13 +118,13 @@ module _ {A : Type 0} (same : A → A → Bool) where
       one false q e = rw q e
 
   -- each stands there once
-  pub firsts_once : (l : List A) → distinct same (firstsBy same l) ≡ true
+  pub firsts_once : (l : List A) → distinct same (firsts_by same l) ≡ true
   firsts_once [] = refl
   firsts_once (x ∷ l) =
-      join (not (some (same x) (keep (λ (y : A). not (same x y)) (firstsBy same l))))
-      (distinct same (keep (λ (y : A). not (same x y)) (firstsBy same l)))
-      (ap not (none_left (same x) (firstsBy same l)))
-      (distinct_keep same (λ (y : A). not (same x y)) (firstsBy same l) (firsts_once l))
+      join (not (some (same x) (keep (λ (y : A). not (same x y)) (firsts_by same l))))
+      (distinct same (keep (λ (y : A). not (same x y)) (firsts_by same l)))
+      (ap not (none_left (same x) (firsts_by same l)))
+      (distinct_keep same (λ (y : A). not (same x y)) (firsts_by same l) (firsts_once l))
 
 -- numbers
 pub same_numbers : Same eqb
@@ -143,11 +143,11 @@ module _ {A : Type 0} {same : A → A → Bool} (so : Same same) where
       same_test (same x z) (same y z) (λ e. onward y x z (turned y x ∙ h) e) (λ e. onward x y z h e)
 
   pub firsts_append : (xs ys : List A)
-      → firstsBy same (xs ++ ys) ≡ firstsBy same xs ++ keep (λ (y : A). not (some (same y) xs)) (firstsBy same ys)
+      → firsts_by same (xs ++ ys) ≡ firsts_by same xs ++ keep (λ (y : A). not (some (same y) xs)) (firsts_by same ys)
   firsts_append xs ys =
       firsts_behind same xs ys
-      ∙ ap (λ (r : List A). firstsBy same xs ++ r)
-      (keep_same (λ (y : A). not (some (λ (x : A). same x y) xs)) (λ (y : A). not (some (same y) xs)) (firstsBy same ys)
+      ∙ ap (λ (r : List A). firsts_by same xs ++ r)
+      (keep_same (λ (y : A). not (some (λ (x : A). same x y) xs)) (λ (y : A). not (some (same y) xs)) (firsts_by same ys)
       (λ y. ap not (some_turned y xs)))
     where
       some_turned : (y : A) (l : List A) → some (λ (x : A). same x y) l ≡ some (same y) l
@@ -156,15 +156,15 @@ module _ {A : Type 0} {same : A → A → Bool} (so : Same same) where
 
   -- one element more adds itself exactly when no earlier one is the same
   pub firsts_next : (xs : List A) (y : A)
-      → firstsBy same (xs ++ (y ∷ [])) ≡ firstsBy same xs ++ cond (some (same y) xs) [] (y ∷ [])
-  firsts_next xs y = firsts_append xs (y ∷ []) ∙ ap (λ (r : List A). firstsBy same xs ++ r) (one (some (same y) xs))
+      → firsts_by same (xs ++ (y ∷ [])) ≡ firsts_by same xs ++ cond (some (same y) xs) [] (y ∷ [])
+  firsts_next xs y = firsts_append xs (y ∷ []) ∙ ap (λ (r : List A). firsts_by same xs ++ r) (one (some (same y) xs))
     where
       one : (b : Bool) → cond (not b) (y ∷ []) [] ≡ cond b [] (y ∷ [])
       one true = refl
       one false = refl
 
   -- whatever stands in the list stands among its firsts
-  pub firsts_all : (x : A) (l : List A) → some (same x) (firstsBy same l) ≡ some (same x) l
+  pub firsts_all : (x : A) (l : List A) → some (same x) (firsts_by same l) ≡ some (same x) l
   firsts_all x [] = refl
   firsts_all x (y ∷ l) = one (same x y) refl (firsts_all x l)
     where
@@ -172,14 +172,14 @@ module _ {A : Type 0} {same : A → A → Bool} (so : Same same) where
       apart h z e =
           ap not (not_so (same y z) (λ k. never (same x y) (onward x z y e (turned z y ∙ k)) h))
 
-      one : (b : Bool) → same x y ≡ b → some (same x) (firstsBy same l) ≡ some (same x) l
-          → (b || some (same x) (keep (λ (z : A). not (same y z)) (firstsBy same l))) ≡ (b || some (same x) l)
+      one : (b : Bool) → same x y ≡ b → some (same x) (firsts_by same l) ≡ some (same x) l
+          → (b || some (same x) (keep (λ (z : A). not (same y z)) (firsts_by same l))) ≡ (b || some (same x) l)
       one true h e = refl
-      one false h e = some_given (same x) (λ (z : A). not (same y z)) (apart h) (firstsBy same l) ∙ e
+      one false h e = some_given (same x) (λ (z : A). not (same y z)) (apart h) (firsts_by same l) ∙ e
 
   -- a test that does not tell the same apart
   pub firsts_keep : (f : A → Bool) → ((x y : A) → same x y ≡ true → f x ≡ f y) → (l : List A)
-      → firstsBy same (keep f l) ≡ keep f (firstsBy same l)
+      → firsts_by same (keep f l) ≡ keep f (firsts_by same l)
   firsts_keep f h [] = refl
   firsts_keep f h (x ∷ l) = one (f x) refl (firsts_keep f h l)
     where
@@ -189,12 +189,12 @@ module _ {A : Type 0} {same : A → A → Bool} (so : Same same) where
       apart : f x ≡ false → (y : A) → f y ≡ true → not (same x y) ≡ true
       apart q y e = ap not (not_so (same x y) (λ k. never (f y) e (sym (h x y k) ∙ q)))
 
-      one : (b : Bool) → f x ≡ b → firstsBy same (keep f l) ≡ keep f (firstsBy same l)
-          → firstsBy same (cond b (x ∷ keep f l) (keep f l))
-          ≡ cond b (x ∷ keep f (keep (λ (y : A). not (same x y)) (firstsBy same l)))
-          (keep f (keep (λ (y : A). not (same x y)) (firstsBy same l)))
-      one true q e = ap (λ (r : List A). x ∷ r) (ap (keep other) e ∙ keep_swap other f (firstsBy same l))
-      one false q e = e ∙ sym (keep_given f other (apart q) (firstsBy same l))
+      one : (b : Bool) → f x ≡ b → firsts_by same (keep f l) ≡ keep f (firsts_by same l)
+          → firsts_by same (cond b (x ∷ keep f l) (keep f l))
+          ≡ cond b (x ∷ keep f (keep (λ (y : A). not (same x y)) (firsts_by same l)))
+          (keep f (keep (λ (y : A). not (same x y)) (firsts_by same l)))
+      one true q e = ap (λ (r : List A). x ∷ r) (ap (keep other) e ∙ keep_swap other f (firsts_by same l))
+      one false q e = e ∙ sym (keep_given f other (apart q) (firsts_by same l))
 
 -- GROUPS BY A KEY
 
@@ -204,7 +204,7 @@ module _ {X A : Type 0} (same : A → A → Bool) (key : X → A) where
   group_of n l = keep (λ (x : X). same (key x) n) l
 
   abbrev pub groups : List X → List X
-  groups l = gathered (λ (n : A). group_of n l) (firstsBy same (map key l))
+  groups l = gathered (λ (n : A). group_of n l) (firsts_by same (map key l))
 
 module _ {X A : Type 0} {same : A → A → Bool} (so : Same same) (key : X → A) where
   open so use {itself, turned, onward}
@@ -260,7 +260,7 @@ module _ {X A : Type 0} {same : A → A → Bool} (so : Same same) (key : X → 
       ap₂ (λ (r s : List X). r ++ s) first rest
     where
       ns : List A
-      ns = keep (λ (n : A). not (same (key x) n)) (firstsBy same (map key l))
+      ns = keep (λ (n : A). not (same (key x) n)) (firsts_by same (map key l))
 
       first : group_of same key (key x) (x ∷ l) ≡ x ∷ group_of same key (key x) l
       first = rw (itself (key x))
@@ -269,13 +269,13 @@ module _ {X A : Type 0} {same : A → A → Bool} (so : Same same) (key : X → 
       not_x n h = rw (not-true (same (key x) n) h)
 
       rest : gathered (λ (n : A). group_of same key n (x ∷ l))
-          (keep (λ (n : A). not (same (key x) n)) (firstsBy same (map key l)))
+          (keep (λ (n : A). not (same (key x) n)) (firsts_by same (map key l)))
           ≡ keep (λ (y : X). not (same (key y) (key x))) (groups same key l)
       rest =
           gathered_among (λ (n : A). not (same (key x) n)) (λ (n : A). group_of same key n (x ∷ l))
           (λ (n : A). group_of same key n l) not_x ns
-          (all_kept (λ (n : A). not (same (key x) n)) (firstsBy same (map key l)))
-          ∙ groups_other (key x) l (firstsBy same (map key l))
+          (all_kept (λ (n : A). not (same (key x) n)) (firsts_by same (map key l)))
+          ∙ groups_other (key x) l (firsts_by same (map key l))
 
   -- those with a key are its group, in their order
   pub groups_of : (n : A) (l : List X) → group_of same key n (groups same key l) ≡ group_of same key n l
@@ -331,14 +331,14 @@ module _ {X A : Type 0} {same : A → A → Bool} (so : Same same) (key : X → 
       omega arith
 
   -- the groups stand in the order of firsts
-  pub firsts_of_groups : (l : List X) → firstsBy same (map key (groups same key l)) ≡ firstsBy same (map key l)
+  pub firsts_of_groups : (l : List X) → firsts_by same (map key (groups same key l)) ≡ firsts_by same (map key l)
   firsts_of_groups [] = refl
   firsts_of_groups (x ∷ l) =
-      ap (λ (r : List X). firstsBy same (map key r)) (groups_cons x l)
+      ap (λ (r : List X). firsts_by same (map key r)) (groups_cons x l)
       ∙ ap (λ (r : List A). k ∷ r)
       (sym (firsts_keep so other (λ a b h. ap not (other_same a b h))
       (map key (group_of same key k l ++ keep (others k) (groups same key l))))
-      ∙ ap (firstsBy same)
+      ∙ ap (firsts_by same)
       (keep_map key other (group_of same key k l ++ keep (others k) (groups same key l))
       ∙ ap (map key)
       (keep_append (λ (y : X). not (same k (key y))) (group_of same key k l) (keep (others k) (groups same key l))

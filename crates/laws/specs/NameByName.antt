@@ -5,7 +5,7 @@ use Rattle.std.proofs.Math.Path.{refl, ap}
 use Rattle.std.proofs.Common.{ap₂, ◌∙◌}
 use Rattle.std.proofs.Math.Bool.{true, false, not}
 use mathlib.Core.List.{List, [], ◌∷◌, ◌++◌, map}
-use Rattle.lists.specs.Lists.{every, some, howMany}
+use Rattle.lists.specs.Lists.{every, some, how_many}
 use Rattle.lists.specs.Pick.{pick, pick_true}
 use Rattle.lists.specs.Keeping.{keep_any, keep_among, keep_none}
 use Rattle.lists.specs.Counting.{how_many_keep}
@@ -35,13 +35,13 @@ use Rattle.laws.specs.Admitted.{open_running}
 use Rattle.laws.specs.InRange.{enq_names}
 use Rattle.laws.specs.Passed.{enq_passed}
 use Rattle.laws.specs.Queueing.{tail_none}
-use Rattle.laws.specs.ToQueue.{zeroCoded, have_zero}
+use Rattle.laws.specs.ToQueue.{zero_coded, have_zero}
 use Rattle.laws.specs.KeptQueue.{coded_tables, tail_leaves}
 use Rattle.laws.specs.SystemNames.{enq_asked}
 
 -- 105, under HAVE: some name is one that the caller has no entry for, and these names are more than the free entries
 pub have_too_few : (q : List Entry) (c : ℕ) (l : Names) → too_few_free Have q c l
-    ≡ (some (fresh q c) l.asks && ltb most_entries (length q + howMany (fresh q c) l.asks))
+    ≡ (some (fresh q c) l.asks && ltb most_entries (length q + how_many (fresh q c) l.asks))
 unfolding too_few_free to_queue
 have_too_few q c l =
     ap₂ (λ (b : Bool) (n : ℕ). b && ltb most_entries (length q + n)) (keep_any (fresh q c) l.asks)
@@ -55,15 +55,15 @@ module _ (s : Step) (c : TaskNumber) where
 
   -- these asks stand behind what was in the queue; apart from that only the caller's wait changes, which begins unless
   -- each of them is available
-  abbrev pub stepWith : List Ask → Step
-  stepWith asks =
+  abbrev pub step_with : List Ask → Step
+  step_with asks =
       with_queue (with_tasks s (pick (every (available s.queue) asks) s.tasks
       (with_place s.tasks c.0 (with_condition (place s.tasks c.0) ResourceWait))))
       (s.queue ++ map (entry_for c.0) asks)
 
   pub record NameByName (l : Names) (area : List ℕ) (v : Served Step) : Type 0 where
     -- the names with code 0 are queued, these and no others, in list order
-    pub tables : v.outcome.tables ≡ stepWith (zeroCoded s.queue c.0 Have l)
+    pub tables : v.outcome.tables ≡ step_with (zero_coded s.queue c.0 Have l)
     -- 8 is written exactly where the caller had an entry before, and else 0
     pub codes : v.codes ≡ written_on (map (λ (a : Ask). pick (had a) 8 0) l.asks) area
     -- 4 is answered exactly where it had one, and else 0, with nothing besides
@@ -118,14 +118,14 @@ module _ (s : Step) (h : Sound s) (c : TaskNumber) (o : gate_of s c ≡ Open) (l
       ap (λ (v : Served Step). v.outcome.tables) served
       ∙ coded_tables (enq_codes Have s.queue c.0 l) (enq_tail Have s c.0 l)
 
-  tail_is : enq_tail Have s c.0 l ≡ stepWith s c (to_queue Have s.queue c.0 l)
+  tail_is : enq_tail Have s c.0 l ≡ step_with s c (to_queue Have s.queue c.0 l)
   tail_is =
       tail_leaves s run c o l (enq_names Have l (enq_passed s.queue c Have l (length area) g).good) Have _ refl
 
   pub name_by_name : NameByName s c l area (serve_of s asked)
   unfolding enq_done enq_written enq_code pick
   name_by_name = record {
-    tables = leaves ∙ tail_is ∙ ap (stepWith s c) (have_zero s.queue c.0 l);
+    tables = leaves ∙ tail_is ∙ ap (step_with s c) (have_zero s.queue c.0 l);
     codes = ap (λ (v : Served Step). v.codes) served;
     number =
         ap (λ (v : Served Step). v.outcome.number) served

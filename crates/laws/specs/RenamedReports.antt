@@ -7,7 +7,7 @@ use Rattle.std.proofs.Math.Bool.{not}
 use mathlib.Core.List.{List, [], ◌∷◌, ◌++◌, map, map-append, map-map}
 use Prim.Native.Nat.{ℕ}
 use Rattle.std.proofs.lemmas.List.{length-map}
-use Rattle.lists.specs.Lists.{keep, every, some, gathered, numbers, firstsBy}
+use Rattle.lists.specs.Lists.{keep, every, some, gathered, numbers, firsts_by}
 use Rattle.lists.specs.Bools.{both, join}
 use Rattle.lists.specs.Every.{every_append, every_of}
 use Rattle.lists.specs.Keeping.{keep_map, keep_among, take_map, every_keep}
@@ -64,14 +64,14 @@ module _ (f : Resource → Resource) (known : Resource → Bool) (r : Apart f kn
   abbrev R : Entry → Entry
   R = re_named f
 
-  abbrev ofKnown : Entry → Bool
-  ofKnown e = known e.name
+  abbrev of_known : Entry → Bool
+  of_known e = known e.name
 
   -- where the names before an entry are known, and its own
   one_more : (before : List Entry) (e : Entry) → all_known known before ≡ true → known e.name ≡ true
       → all_known known (before ++ (e ∷ [])) ≡ true
   one_more before e h k =
-      every_append ofKnown before (e ∷ [])
+      every_append of_known before (e ∷ [])
       ∙ join (all_known known before) (all_known known (e ∷ [])) h (join (known e.name) true k refl)
 
   -- WHO IS STUCK
@@ -110,7 +110,7 @@ module _ (f : Resource → Resource) (known : Resource → Bool) (r : Apart f kn
   unfolding stuck
   stuck_same q h =
       let w = waits_for_same q h in
-      let k = ap (firstsBy eqb) (tasks_same q) in
+      let k = ap (firsts_by eqb) (tasks_same q) in
       λ i. λ t. leads_by (w i) (k i) t t
 
   module _ (these : ℕ → Bool) (t : ℕ) where
@@ -120,7 +120,7 @@ module _ (f : Resource → Resource) (known : Resource → Bool) (r : Apart f kn
         ≡ map (re_stuck f) (map (stuck_at n e) (keep (λ (x : Entry). of_task t e && holds_up these e x) before))
     lines_at n e k before h =
         ap (map (stuck_at n (R e)))
-        (keep_changed R ofKnown (λ (x : Entry). of_task t e && holds_up these (R e) x)
+        (keep_changed R of_known (λ (x : Entry). of_task t e && holds_up these (R e) x)
         (λ (x : Entry). of_task t e && holds_up these e x)
         (λ x d. ap (λ (b : Bool). of_task t e && ((not (eqb x.task e.task) && these x.task) && b))
         (bars_same f known r x e d k)) before h)

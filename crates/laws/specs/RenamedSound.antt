@@ -9,7 +9,7 @@ use Prim.Native.Nat.{ℕ}
 use Rattle.std.proofs.Math.Dec.{leb}
 use Rattle.std.proofs.lemmas.List.{length-map}
 use Rattle.lists.specs.Pick.{pick}
-use Rattle.lists.specs.Lists.{every, everyAt, alike}
+use Rattle.lists.specs.Lists.{every, every_at, alike}
 use Rattle.lists.specs.Bools.{both, join, and_left}
 use Rattle.lists.specs.Every.{every_of}
 use Rattle.kinds.specs.Limits.{most_entries}
@@ -97,7 +97,7 @@ module _ (f : Resource → Resource) (known : Resource → Bool) (r : Apart f kn
   waits_good_same q ts h =
       let e : wait_good (map (re_named f) q) ≡ wait_good q =
       λ i. λ n x. alike (in_resource_wait x.condition) (lacks_same f known r n q h i) in
-      ap (λ (w : ℕ → Task → Bool). everyAt w 1 ts) e
+      ap (λ (w : ℕ → Task → Bool). every_at w 1 ts) e
 
   -- the other rules on a step that runs are the same
   but_same : (s : Step) (n : Bool) → all_known known s.queue ≡ true

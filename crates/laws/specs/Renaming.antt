@@ -232,11 +232,11 @@ module _ (f : Resource → Resource) (known : Resource → Bool) (r : Apart f kn
   names_of_lem l = map-map name_of (re_asked f) l.asks ∙ sym (map-map f name_of l.asks)
 
   -- an ask for a known name
-  abbrev knownAsk : Ask → Bool
-  knownAsk a = known a.name
+  abbrev known_ask : Ask → Bool
+  known_ask a = known a.name
 
   -- where the names are known the asks are
-  asks_known : (l : Names) → every known (names_of l) ≡ true → every knownAsk l.asks ≡ true
+  asks_known : (l : Names) → every known (names_of l) ≡ true → every known_ask l.asks ≡ true
   asks_known l k = sym (every_of name_of known l.asks) ∙ k
 
   -- each code is the same, under ENQ
@@ -255,7 +255,7 @@ module _ (f : Resource → Resource) (known : Resource → Bool) (r : Apart f kn
   pub enq_codes_same : (ret : Ret) (q : List Entry) (c : ℕ) (l : Names) → all_known known q ≡ true
       → every known (names_of l) ≡ true → enq_codes ret (map R q) c (re_names f l) ≡ enq_codes ret q c l
   enq_codes_same ret q c l h k =
-      map_alike (re_asked f) knownAsk (enq_code ret (map R q) c) (enq_code ret q c)
+      map_alike (re_asked f) known_ask (enq_code ret (map R q) c) (enq_code ret q c)
       (λ a u. enq_code_same ret q c a h u) l.asks (asks_known l k)
 
   -- and under DEQ
@@ -285,7 +285,7 @@ module _ (f : Resource → Resource) (known : Resource → Bool) (r : Apart f kn
       one true = refl
       one false = refl
   to_queue_same Have q c l h k =
-      keep_alike (re_asked f) knownAsk (fresh (map R q) c) (fresh q c) (λ a u. ap not (entry_same q c a.name h u))
+      keep_alike (re_asked f) known_ask (fresh (map R q) c) (fresh q c) (λ a u. ap not (entry_same q c a.name h u))
       l.asks (asks_known l k)
   to_queue_same Chng q c l h k = refl
 
@@ -293,7 +293,7 @@ module _ (f : Resource → Resource) (known : Resource → Bool) (r : Apart f kn
   pub duplicated_same : (ret : Ret) (q : List Entry) (c : ℕ) (l : Names) → all_known known q ≡ true
       → every known (names_of l) ≡ true → duplicated ret (map R q) c (re_names f l) ≡ duplicated ret q c l
   duplicated_same None q c l h k =
-      some_alike (re_asked f) knownAsk (λ (a : Ask). has_entry (map R q) c a.name)
+      some_alike (re_asked f) known_ask (λ (a : Ask). has_entry (map R q) c a.name)
       (λ (a : Ask). has_entry q c a.name) (λ a u. entry_same q c a.name h u) l.asks (asks_known l k)
   duplicated_same Test q c l h k = refl
   duplicated_same Use q c l h k = refl
@@ -335,4 +335,4 @@ module _ (f : Resource → Resource) (known : Resource → Bool) (r : Apart f kn
   tail_known ret q t l h k =
       every_append (λ (e : Entry). known e.name) q (map (entry_for t) (to_queue ret q t l))
       ∙ join (all_known known q) _ h (every_of (entry_for t) (λ (e : Entry). known e.name) (to_queue ret q t l)
-      ∙ to_queue_every ret q t l knownAsk (asks_known l k))
+      ∙ to_queue_every ret q t l known_ask (asks_known l k))

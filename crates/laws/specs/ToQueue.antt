@@ -107,10 +107,10 @@ module _ (q : List Entry) (c : ℕ) where
   -- THEIR CODES ARE 0, and no other's, under HAVE
 
   -- the asks with code 0
-  abbrev pub zeroCoded : Ret → Names → List Ask
-  zeroCoded ret l = keep (λ (a : Ask). eqb 0 (enq_code ret q c a)) l.asks
+  abbrev pub zero_coded : Ret → Names → List Ask
+  zero_coded ret l = keep (λ (a : Ask). eqb 0 (enq_code ret q c a)) l.asks
 
-  pub have_zero : (l : Names) → to_queue Have q c l ≡ zeroCoded Have l
+  pub have_zero : (l : Names) → to_queue Have q c l ≡ zero_coded Have l
   unfolding to_queue enq_code
   have_zero l =
       keep_same (fresh q c) (λ (a : Ask). eqb 0 (enq_code Have q c a)) l.asks

@@ -3,7 +3,7 @@
 use Rattle.std.specs.Prelude.{◌≡◌, refl, Bool, true, false, not, cond, ◌&&◌, ◌||◌, List, [], ◌∷◌, ◌++◌, map}
 use Rattle.std.proofs.Common.{sym, ap, ap₂, ◌∙◌}
 use Rattle.std.proofs.lemmas.Bool.{not-true}
-use Rattle.lists.specs.Lists.{every, some, keep, distinct, firstsBy, gathered}
+use Rattle.lists.specs.Lists.{every, some, keep, distinct, firsts_by, gathered}
 use Rattle.lists.specs.Bools.{both, join, or_left, or_right, not_so, never}
 use Rattle.lists.specs.Every.{every_gives, some_append}
 use Rattle.laws.specs.Among.{some_same, some_kept, all_kept, kept_none}
@@ -11,19 +11,19 @@ use Rattle.laws.specs.Grouping.{Same, same_as, firsts_once, groups, groups_cons}
 
 module _ {X : Type 0} where
   -- what is left behind the elements at the front that pass a test
-  abbrev pub behindRun : (X → Bool) → List X → List X
-  behindRun p [] = []
-  behindRun p (x ∷ l) = cond (p x) (behindRun p l) (x ∷ l)
+  abbrev pub behind_run : (X → Bool) → List X → List X
+  behind_run p [] = []
+  behind_run p (x ∷ l) = cond (p x) (behind_run p l) (x ∷ l)
 
-  run_all : (p : X → Bool) (b r : List X) → every p b ≡ true → behindRun p (b ++ r) ≡ behindRun p r
+  run_all : (p : X → Bool) (b r : List X) → every p b ≡ true → behind_run p (b ++ r) ≡ behind_run p r
   run_all p [] r h = refl
   run_all p (x ∷ b) r h =
       let k = both (p x) (every p b) h in
-      ap (λ (c : Bool). cond c (behindRun p (b ++ r)) (x ∷ (b ++ r))) k.0 ∙ run_all p b r k.1
+      ap (λ (c : Bool). cond c (behind_run p (b ++ r)) (x ∷ (b ++ r))) k.0 ∙ run_all p b r k.1
 
-  run_none : (p : X → Bool) (r : List X) → some p r ≡ false → behindRun p r ≡ r
+  run_none : (p : X → Bool) (r : List X) → some p r ≡ false → behind_run p r ≡ r
   run_none p [] h = refl
-  run_none p (x ∷ r) h = ap (λ (c : Bool). cond c (behindRun p r) (x ∷ r)) (or_left (p x) (some p r) h)
+  run_none p (x ∷ r) h = ap (λ (c : Bool). cond c (behind_run p r) (x ∷ r)) (or_left (p x) (some p r) h)
 
   none_pass : (p : X → Bool) → ((x : X) → p x ≡ false) → (l : List X) → some p l ≡ false
   none_pass p h [] = refl
@@ -35,7 +35,7 @@ module _ {X : Type 0} where
       rw (or_left (p x) (some p l) h) (ap (λ (r : List X). x ∷ r) (all_left p l (or_right (p x) (some p l) h)))
 
   -- where none passes behind the run, those that pass and then the others are the list
-  run_split : (p : X → Bool) (l : List X) → some p (behindRun p l) ≡ false
+  run_split : (p : X → Bool) (l : List X) → some p (behind_run p l) ≡ false
       → keep p l ++ keep (λ (x : X). not (p x)) l ≡ l
   run_split p [] h = refl
   run_split p (x ∷ l) h = one (p x) h (run_split p l)
@@ -43,8 +43,8 @@ module _ {X : Type 0} where
       rest : List X
       rest = keep (λ (y : X). not (p y)) l
 
-      one : (b : Bool) → some p (cond b (behindRun p l) (x ∷ l)) ≡ false
-          → (some p (behindRun p l) ≡ false → keep p l ++ rest ≡ l)
+      one : (b : Bool) → some p (cond b (behind_run p l) (x ∷ l)) ≡ false
+          → (some p (behind_run p l) ≡ false → keep p l ++ rest ≡ l)
           → cond b (x ∷ keep p l) (keep p l) ++ cond (not b) (x ∷ rest) rest ≡ x ∷ l
       one true k ih = ap (λ (r : List X). x ∷ r) (ih k)
       one false k ih =
@@ -56,7 +56,7 @@ module _ {X A : Type 0} (same : A → A → Bool) (key : X → A) where
   abbrev pub together : List X → Bool
   together [] = true
   together (x ∷ l) =
-      not (some (λ (y : X). same (key y) (key x)) (behindRun (λ (y : X). same (key y) (key x)) l)) && together l
+      not (some (λ (y : X). same (key y) (key x)) (behind_run (λ (y : X). same (key y) (key x)) l)) && together l
 
 module _ {X A : Type 0} {same : A → A → Bool} (so : Same same) (key : X → A) where
   open so use {turned, onward}
@@ -78,7 +78,7 @@ module _ {X A : Type 0} {same : A → A → Bool} (so : Same same) (key : X → 
       let p = as_keyed n x e.0 in
       let all = every_gives (keyed n) (keyed (key x)) (λ y w. p y ∙ w) b e.1 in
       let none = some_same (keyed (key x)) (keyed n) p r ∙ k in
-      join (not (some (keyed (key x)) (behindRun (keyed (key x)) (b ++ r)))) (together same key (b ++ r))
+      join (not (some (keyed (key x)) (behind_run (keyed (key x)) (b ++ r)))) (together same key (b ++ r))
       (ap (λ (l : List X). not (some (keyed (key x)) l))
       (run_all (keyed (key x)) b r all ∙ run_none (keyed (key x)) r none)
       ∙ ap not none)
@@ -109,7 +109,7 @@ module _ {X A : Type 0} {same : A → A → Bool} (so : Same same) (key : X → 
       (other_groups n l ns (not-true (some (same n) ns) d.0)) (by_key l ns d.1)
 
   pub groups_together : (l : List X) → together same key (groups same key l) ≡ true
-  groups_together l = by_key l (firstsBy same (map key l)) (firsts_once same (map key l))
+  groups_together l = by_key l (firsts_by same (map key l)) (firsts_once same (map key l))
 
   -- ONE LIST ONLY
 
@@ -118,17 +118,17 @@ module _ {X A : Type 0} {same : A → A → Bool} (so : Same same) (key : X → 
   in_runs [] h = refl
   in_runs (x ∷ l) h =
       let p = keyed (key x) in
-      let d = both (not (some p (behindRun p l))) (together same key l) h in
+      let d = both (not (some p (behind_run p l))) (together same key l) h in
       groups_cons so key x l
       ∙ ap (λ (r : List X). x ∷ (keep p l ++ keep (λ (y : X). not (p y)) r)) (in_runs l d.1)
-      ∙ ap (λ (r : List X). x ∷ r) (run_split p l (not-true (some p (behindRun p l)) d.0))
+      ∙ ap (λ (r : List X). x ∷ r) (run_split p l (not-true (some p (behind_run p l)) d.0))
 
   pub one_grouping : (l m : List X) → together same key l ≡ true
-      → firstsBy same (map key l) ≡ firstsBy same (map key m)
+      → firsts_by same (map key l) ≡ firsts_by same (map key m)
       → ((n : A) → keep (keyed n) l ≡ keep (keyed n) m) → l ≡ groups same key m
   one_grouping l m h e g =
       sym (in_runs l h) ∙ ap (gathered (λ (n : A). keep (keyed n) l)) e
-      ∙ alike (firstsBy same (map key m))
+      ∙ alike (firsts_by same (map key m))
     where
       alike : (ns : List A) → gathered (λ (n : A). keep (keyed n) l) ns ≡ gathered (λ (n : A). keep (keyed n) m) ns
       alike [] = refl

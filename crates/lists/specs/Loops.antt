@@ -10,7 +10,7 @@ use Rattle.lists.specs.Lists.{every, some, unskipped}
 use Rattle.lists.specs.Every.{every_fails, every_goes, every_end, every_of, some_of, some_here, some_later}
 use Rattle.lists.specs.Every.{some_end, slice_next}
 use Rattle.lists.specs.Keeping.{take_map}
-use Rattle.lists.specs.Skipping.{leftFrom, left_next, left_over}
+use Rattle.lists.specs.Skipping.{left_from, left_next, left_over}
 
 -- a loop to n that goes on is below n
 pub goes_on : (j n : ℕ) (b : Bool) → (ltb j n && b) ≡ true → j < n
@@ -71,7 +71,7 @@ all_shown view f n l = sym (ap (every f) (take_map view n l) ∙ every_of view f
 
 -- all pass but those that are skipped
 pub record AllBut {A : Type 0} (f : A → Bool) (skip : List Bool) (l : List A) (i n : ℕ) : Type 0 where
-  pub left : every f (unskipped skip (take n l)) ≡ every f (leftFrom skip l i n)
+  pub left : every f (unskipped skip (take n l)) ≡ every f (left_from skip l i n)
 
 pub but_start : {A : Type 0} {f : A → Bool} {skip : List Bool} {l : List A} {n : ℕ} → AllBut f skip l 0 n
 but_start = record { left = refl }
@@ -83,11 +83,11 @@ module _ {A : Type 0} {f : A → Bool} {skip : List Bool} {l : List A} {i n : �
   -- the element at place i, of which b tells that it is skipped or passes
   module _ (h : i < n) (k : n ≤ length l) (j : i < length skip) (d : A) (s : Bool) {b : Bool}
       (t : b ≡ (get_or skip i s || f (get_or l i d))) where
-    looked : every f (leftFrom skip l i n) ≡ (b && every f (leftFrom skip l (i + 1) n))
+    looked : every f (left_from skip l i n) ≡ (b && every f (left_from skip l (i + 1) n))
     looked =
         ap (every f) (left_next skip l i n d s h k j)
-        ∙ one (get_or skip i s) (get_or l i d) (leftFrom skip l (i + 1) n)
-        ∙ ap (λ (a : Bool). a && every f (leftFrom skip l (i + 1) n)) (sym t)
+        ∙ one (get_or skip i s) (get_or l i d) (left_from skip l (i + 1) n)
+        ∙ ap (λ (a : Bool). a && every f (left_from skip l (i + 1) n)) (sym t)
       where
         one : (a : Bool) (x : A) (r : List A) → every f (cond a r (x ∷ r)) ≡ ((a || f x) && every f r)
         one true x r = refl

@@ -49,18 +49,18 @@ module _ {A : Type 0} where
       one false u v = join (not (some (same x) (unskipped skip l))) (distinct same (unskipped skip l)) (ap not u) v
 
   -- what is left of the places i to n - 1
-  abbrev pub leftFrom : List Bool → List A → ℕ → ℕ → List A
-  leftFrom skip l i n = unskipped (drop i skip) (slice i n l)
+  abbrev pub left_from : List Bool → List A → ℕ → ℕ → List A
+  left_from skip l i n = unskipped (drop i skip) (slice i n l)
 
   module _ (skip : List Bool) (l : List A) (i n : ℕ) where
     pub left_next : (d : A) (e : Bool) → i < n → n ≤ length l → i < length skip
-        → leftFrom skip l i n
-        ≡ cond (get_or skip i e) (leftFrom skip l (i + 1) n) (get_or l i d ∷ leftFrom skip l (i + 1) n)
+        → left_from skip l i n
+        ≡ cond (get_or skip i e) (left_from skip l (i + 1) n) (get_or l i d ∷ left_from skip l (i + 1) n)
     left_next d e h k j =
         ap₂ unskipped (drop-cons skip i e j ∙ ap (λ (m : ℕ). get_or skip i e ∷ drop m skip) (sym (add-one i)))
         (slice_next i n l d h k)
 
-    pub left_over : i ≡ n → leftFrom skip l i n ≡ []
+    pub left_over : i ≡ n → left_from skip l i n ≡ []
     left_over e = rw e (ap (unskipped (drop n skip)) (slice_empty n l))
 
 module _ {A B : Type 0} (g : A → B) where
@@ -79,10 +79,10 @@ module _ {A B : Type 0} (g : A → B) where
 -- what the places i to n - 1 of an array show, but for the skipped
 module _ {A B : Type 0} (view : A → B) (skip : List Bool) (l : List A) (i n : ℕ) where
   pub left_view : (d : A) (e : Bool) → i < n → n ≤ length l → i < length skip
-      → leftFrom skip (map view l) i n
-      ≡ cond (get_or skip i e) (leftFrom skip (map view l) (i + 1) n)
-      (view (get_or l i d) ∷ leftFrom skip (map view l) (i + 1) n)
+      → left_from skip (map view l) i n
+      ≡ cond (get_or skip i e) (left_from skip (map view l) (i + 1) n)
+      (view (get_or l i d) ∷ left_from skip (map view l) (i + 1) n)
   left_view d e h k j =
-      let rest = leftFrom skip (map view l) (i + 1) n in
+      let rest = left_from skip (map view l) (i + 1) n in
       left_next skip (map view l) i n (view d) e h (rw (length-map l view) k) j
       ∙ ap (λ (b : B). cond (get_or skip i e) rest (b ∷ rest)) (get_or-map view l i d)

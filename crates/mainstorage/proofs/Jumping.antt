@@ -8,7 +8,7 @@ use native.Mathlib.Omega.{arith}
 use lib.Dec.{leb, ltb}
 use lib.ListN.{length}
 use borrow.Author.Tests.{leb-true, leb-false, ltb-true, ltb-false, le-leb}
-use Rattle.lists.specs.Lists.{every, howMany}
+use Rattle.lists.specs.Lists.{every, how_many}
 use Rattle.lists.specs.Bools.{both, join}
 use Rattle.lists.specs.Setting.{how_many_few}
 use Rattle.kinds.specs.Limits.{region, doubleword, most_areas}
@@ -90,6 +90,6 @@ module _ (l : List Area) (w : Area) where
   -- with one try more than there are areas: what a jump has passed it does not meet again
   pub areas_and_one : jumping past (suc (length l)) l w 0 ≡ lowest l w
   areas_and_one =
-      from (λ (s : ℕ). suc (howMany (above (past w) s) l)) (λ s h. absurd (omega arith))
+      from (λ (s : ℕ). suc (how_many (above (past w) s) l)) (λ s h. absurd (omega arith))
       (λ s x o j. omega (arith, marks_fall (past w) l s (past w x) j.further o refl)) (suc (length l)) 0 refl
       (omega (arith, how_many_few (above (past w) 0) l))

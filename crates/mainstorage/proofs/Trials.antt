@@ -11,7 +11,7 @@ use borrow.Author.Tests.{ltb-true, ltb-false}
 use Rattle.lists.specs.Lists.{every}
 use Rattle.lists.specs.Bools.{and_left}
 use Rattle.lists.specs.Loops.{yet_more}
-use Rattle.lists.specs.Setting.{every_at}
+use Rattle.lists.specs.Setting.{every_at_lem}
 use Rattle.kinds.specs.Limits.{most_areas, region}
 use Rattle.kinds.specs.declared.areas.Area.{Area}
 use Rattle.kinds.specs.declared.numbers.MaybeAddress.TheVariants.{Nowhere}
@@ -78,7 +78,7 @@ module _ {l : List Area} {n : ℕ} {w : Area} {s tries : ℕ} {a x : Area} {free
       passes : j < n → (f : Area → Bool) → every f (take n l) ≡ true → f (get_or l j d) ≡ true
       passes k f u =
           ap f (sym (get_or-take n l j d k))
-          ∙ every_at f (take n l) j d u (rw (length-take-le n l (places t.trying.searching)) k)
+          ∙ every_at_lem f (take n l) j d u (rw (length-take-le n l (places t.trying.searching)) k)
 
   -- one stands in the way, and the search goes on past it
   pub jump : free ≡ false → (b u : ℕ) → b ≡ bar_of w x → u ≡ next_at b → (s < u) × Trying l n w u (tries + 1)

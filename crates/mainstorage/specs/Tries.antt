@@ -2,7 +2,7 @@
 use Rattle.std.specs.Prelude.{◌≡◌, refl, Bool, true, false, not, ◌&&◌, List, ℕ, ◌+◌, ◌-◌, ◌/◌, ◌%◌, ◌≤◌, ◌<◌, ltb, length}
 use native.Mathlib.Omega.{arith}
 use Rattle.std.proofs.Common.{ltb-false, lt-ltb, le-ltb}
-use Rattle.lists.specs.Lists.{howMany}
+use Rattle.lists.specs.Lists.{how_many}
 use Rattle.lists.specs.Setting.{how_many_few, how_many_no_more, how_many_drops}
 use Rattle.kinds.specs.Limits.{region, page, most_areas}
 use Rattle.kinds.specs.declared.areas.Area.{Area}
@@ -27,18 +27,18 @@ end_mark x = next_at (past_end x)
 
 -- the page starts above s, up to the region's end, and the ends above s
 unfoldable pub tries_left : List Area → ℕ → ℕ
-tries_left l s = (region / page - s / page) + howMany (above end_mark s) l
+tries_left l s = (region / page - s / page) + how_many (above end_mark s) l
 
 -- FURTHER UP, from s to t, fewer marks lie above
 module _ (mark : Area → ℕ) (l : List Area) (s t : ℕ) (further : s < t) where
   still_below : (x : Area) → above mark s x ≡ false → above mark t x ≡ false
   still_below x e = let k : mark x ≤ s = ltb-false s (mark x) e in le-ltb t (mark x) (omega arith)
 
-  pub marks_most : howMany (above mark t) l ≤ howMany (above mark s) l
+  pub marks_most : how_many (above mark t) l ≤ how_many (above mark s) l
   marks_most = how_many_no_more (above mark s) (above mark t) still_below l
 
   -- where t is one of the marks
-  pub marks_fall : {x : Area} → OneOf l x → t ≡ mark x → howMany (above mark t) l < howMany (above mark s) l
+  pub marks_fall : {x : Area} → OneOf l x → t ≡ mark x → how_many (above mark t) l < how_many (above mark s) l
   marks_fall {x} held e =
       let a : above mark s x ≡ true = lt-ltb s (mark x) (omega arith) in
       let b : above mark t x ≡ false = le-ltb t (mark x) (omega arith) in

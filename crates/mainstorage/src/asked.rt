@@ -1,14 +1,14 @@
 // The area that a request for storage names.
 ghost use Rattle.std.specs.Prelude.{◌≡◌, true};
 ghost use Rattle.kinds.specs.Ranges.{length_good};
-ghost use Rattle.rules.specs.Storage.{rounded as roundedOf, owner_in, area_at};
+ghost use Rattle.rules.specs.Storage.{rounded as rounded_of, owner_in, area_at};
 
 use kinds::{Address, Area, TaskNumber};
 
 // Rounded up to a doubleword. A length in range leaves room for the sum.
 fn rounded(bytes: u32) -> u32
     requires { length_good bytes ≡ true }
-    ensures { result ≡ roundedOf bytes }
+    ensures { result ≡ rounded_of bytes }
 {
     (bytes + (Address::DOUBLEWORD - 1)) / Address::DOUBLEWORD * Address::DOUBLEWORD
 }

@@ -1,7 +1,7 @@
 // Where there is room for an area.
 ghost use Rattle.std.specs.Prelude.{◌≡◌, ◌≤◌};
 ghost use Rattle.kinds.specs.Limits.{most_areas};
-ghost use Rattle.rules.specs.Storage.{placed_at, lowest as lowestOf};
+ghost use Rattle.rules.specs.Storage.{placed_at, lowest as lowest_of};
 ghost use Rattle.storage.specs.Stored.{areas_in};
 ghost use Rattle.mainstorage.specs.Bars.{bar_of, next_at};
 
@@ -55,7 +55,7 @@ const TRIES: usize = (Address::REGION / Address::PAGE) as usize + Area::PLACES;
 // for each address tried.
 pub fn lowest(s: Storage, want: Area) -> MaybeAddress
     requires { s.count ≤ most_areas }
-    ensures { result ≡ lowestOf (areas_in s) want }
+    ensures { result ≡ lowest_of (areas_in s) want }
 {
     let n = s.count;
     let mut at: u32 = 0;

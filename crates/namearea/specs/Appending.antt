@@ -13,7 +13,7 @@ use Rattle.lists.specs.Bools.{both}
 use Rattle.lists.specs.Every.{none_every}
 use Rattle.lists.specs.Filling.{map_at}
 use Rattle.lists.specs.Keeping.{keep_among, keep_all, every_kept}
-use Rattle.lists.specs.Setting.{every_at}
+use Rattle.lists.specs.Setting.{every_at_lem}
 use Rattle.lists.specs.Tables.{padded}
 use Rattle.kinds.specs.Limits.{longest_minor, name_area}
 use Rattle.kinds.specs.declared.names.NameList.{NameList}
@@ -164,7 +164,7 @@ module _ {from : ℕ} {ps : List Pointed} {l : NameList} {old bytes : List ℕ} 
       legal_here : legal x ≡ true
       legal_here =
           ap legal (sym (map_at name_of asks i (ask_of d) x (omega (arith, many)) ∙ ap name_of asked))
-          ∙ every_at legal (map name_of asks) i x good (omega (arith, many, length-map asks name_of))
+          ∙ every_at_lem legal (map name_of asks) i x good (omega (arith, many, length-map asks name_of))
 
       -- its minor part is not too long
       pub short : (get_or l.names i d).name.length ≤ longest_minor

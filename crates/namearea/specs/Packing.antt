@@ -6,7 +6,7 @@ use Rattle.std.proofs.lemmas.List.{map-append, length-map}
 use Rattle.lists.specs.Lists.{every, some}
 use Rattle.lists.specs.Bools.{both}
 use Rattle.lists.specs.Filling.{map_at}
-use Rattle.lists.specs.Setting.{every_at}
+use Rattle.lists.specs.Setting.{every_at_lem}
 use Rattle.lists.specs.Tables.{padded, padded_length}
 use Rattle.rules.specs.Names.{Resource, same_name, firsts}
 use Rattle.namearea.specs.There.{every_front, numbers_in, FirstOf, first_there, first_none}
@@ -73,7 +73,7 @@ module _ {size : ℕ} {old os : List ℕ} {i : ℕ} {to new : List ℕ} {at : �
 
   seen_is : is_in n ns ≡ some (eqb o) (take i os)
   seen_is =
-      unseen old known o (every_at known os i 0 (numbers_in os) here) c.apart (take i os)
+      unseen old known o (every_at_lem known os i 0 (numbers_in os) here) c.apart (take i os)
       (every_front known i os (numbers_in os))
 
   wholes : every whole (firsts ns) ≡ true
@@ -96,7 +96,7 @@ module _ {size : ℕ} {old os : List ℕ} {i : ℕ} {to new : List ℕ} {at : �
 
   -- the offset's name lies within the bytes
   fit : fits_at old (get_or os i 0) ≡ true
-  fit = every_at (fits_at old) os i 0 c.fits here
+  fit = every_at_lem (fits_at old) os i 0 c.fits here
 
   -- it ends before the bytes do
   pub laid_fits : (get_or os i 0 + 9 ≤ length old) × ((get_or os i 0 + 9) + get_or old (get_or os i 0 + 8) 0 ≤ length old)

@@ -5,7 +5,7 @@ use Rattle.std.proofs.Math.Bool.{or-true}
 use Rattle.lists.specs.Lists.{every, some}
 use Rattle.lists.specs.Bools.{both, join}
 use Rattle.lists.specs.Every.{every_gives, every_one, every_of}
-use Rattle.lists.specs.Setting.{every_at}
+use Rattle.lists.specs.Setting.{every_at_lem}
 
 -- one of two tests holds where the second does
 pub or_late : (a b : Bool) → b ≡ true → (a || b) ≡ true
@@ -32,7 +32,7 @@ module _ {A : Type 0} where
   pub front_at : (f : A → Bool) (l : List A) (n i : ℕ) (d : A) → every f (take n l) ≡ true → i < n → n ≤ length l
       → f (get_or l i d) ≡ true
   front_at f l n i d h k m =
-      rw (get_or-take n l i d k) at (every_at f (take n l) i d h (omega (arith, length-take-le n l m)))
+      rw (get_or-take n l i d k) at (every_at_lem f (take n l) i d h (omega (arith, length-take-le n l m)))
 
 -- each number of a list stands in it
 pub numbers_in : (os : List ℕ) → every (λ (o : ℕ). some (eqb o) os) os ≡ true
@@ -49,7 +49,7 @@ module _ {os : List ℕ} {n o r : ℕ} (f : FirstOf os n o r) where
   pub first_there : n ≤ length os → r < n → some (eqb o) (take n os) ≡ true
   first_there h k =
       ap (λ (x : ℕ). some (eqb x) (take n os)) (sym (get_or-take n os r 0 k ∙ f.found k))
-      ∙ every_at (λ (x : ℕ). some (eqb x) (take n os)) (take n os) r 0 (numbers_in (take n os))
+      ∙ every_at_lem (λ (x : ℕ). some (eqb x) (take n os)) (take n os) r 0 (numbers_in (take n os))
       (omega (arith, length-take-le n os h))
 
   -- without a first one there is none

@@ -10,7 +10,7 @@ use lib.Seq.{get_or-take, length-take-le}
 use Rattle.lists.specs.Lists.{every, some}
 use Rattle.lists.specs.Loops.{all_shown, any_shown}
 use Rattle.lists.specs.Keeping.{take_map}
-use Rattle.lists.specs.Setting.{every_at}
+use Rattle.lists.specs.Setting.{every_at_lem}
 use Rattle.lists.specs.Bools.{both}
 use Rattle.lists.specs.Pick.{chain_and}
 use Rattle.kinds.specs.Limits.{longest_list, longest_minor, major_bytes}
@@ -60,7 +60,7 @@ name_short l i d h k e =
     let w = get_or l.names i d in
     let few : l.count ≤ length ns = rw (length-map l.names wanted_name) k in
     let s : legal (get_or (take l.count ns) i (wanted_name d)) ≡ true =
-    every_at legal (take l.count ns) i (wanted_name d) (ap (every legal) (sym (listed l)) ∙ e)
+    every_at_lem legal (take l.count ns) i (wanted_name d) (ap (every legal) (sym (listed l)) ∙ e)
     (rw (length-take-le l.count ns few) h) in
     let g : get_or (take l.count ns) i (wanted_name d) ≡ wanted_name w =
     get_or-take l.count ns i (wanted_name d) h ∙ get_or-map wanted_name l.names i d in

@@ -5,7 +5,7 @@ use mathlib.Core.List.{List, [], ◌∷◌, ◌++◌, map, map-append, append-ni
 use Prim.Native.Nat.{ℕ, ◌+◌, ◌≤◌, ◌<◌}
 use native.Mathlib.Omega.{arith}
 use lib.ListN.{length, get_or, length-set}
-use Rattle.lists.specs.Skipping.{leftFrom, left_view, left_over}
+use Rattle.lists.specs.Skipping.{left_from, left_view, left_over}
 use Rattle.lists.specs.Packed.{appended, append_row, rows_count}
 use Rattle.kinds.specs.Limits.{most_entries}
 use Rattle.kinds.specs.declared.names.Slot.{Slot}
@@ -20,7 +20,7 @@ use Rattle.queue.proofs.Views.{table}
 
 -- what the names at the places i to n - 1 ask for, but for the skipped
 abbrev asks_left : List Bool → List Pointed → ℕ → ℕ → List Ask
-asks_left skip ws i n = leftFrom skip (map pointed_ask ws) i n
+asks_left skip ws i n = left_from skip (map pointed_ask ws) i n
 
 -- the slot of an entry for the name that w asks for
 abbrev pub slot_for : ℕ → Pointed → Slot

@@ -32,7 +32,7 @@ marks_among among q = marked_by (lacks_among among q)
 
 -- after an entry of task t that has control or lacks it
 unfoldable pub with_mark : Marks → ℕ → Bool → Marks
-with_mark m t hasControl = record { tasks = set m.tasks t (mark_at m t || not hasControl) }
+with_mark m t has_control = record { tasks = set m.tasks t (mark_at m t || not has_control) }
 
 pub all_marked : (t : ℕ) → t ≤ highest_task → mark_at all_marks t ≡ true
 all_marked t h = get_or-replicate (highest_task + 1) t true false (omega arith)

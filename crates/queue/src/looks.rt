@@ -4,7 +4,7 @@ ghost use Rattle.std.specs.Prelude.{◌≡◌, ◌≤◌};
 ghost use Rattle.kinds.specs.Limits.{most_entries, longest_list};
 ghost use Rattle.names.specs.Pointers.{pointer, pointed_in};
 ghost use Rattle.rules.specs.Names.{Ask};
-ghost use Rattle.rules.specs.Control.{is_for, has_entry, available as availableIn};
+ghost use Rattle.rules.specs.Control.{is_for, has_entry, available as available_in};
 ghost use Rattle.queue.specs.Queues.{entry_of, entries_in};
 ghost use Rattle.queue.specs.Flagging.{flags_of, all_set_but};
 
@@ -73,7 +73,7 @@ pub fn entered(q: Queue, caller: TaskNumber, l: PointedList) -> Flags
 // is tested as an entry at the tail would be, until one bars it.
 pub fn available(q: Queue, l: PointedList) -> Flags
     requires { (q.count ≤ most_entries) × (l.count ≤ longest_list) }
-    ensures { result ≡ flags_of (availableIn (entries_in q)) (pointed_in l) }
+    ensures { result ≡ flags_of (available_in (entries_in q)) (pointed_in l) }
 {
     let n = q.count;
     let m = l.count as usize;

@@ -7,7 +7,7 @@ use native.Mathlib.Omega.{arith}
 use lib.Dec.{eqb, ltb}
 use lib.ListN.{length, take, length-map}
 use borrow.Author.Tests.{lt-ltb, le-ltb, not-true}
-use Rattle.lists.specs.Lists.{keep, every, some, none, howMany, unskipped}
+use Rattle.lists.specs.Lists.{keep, every, some, none, how_many, unskipped}
 use Rattle.lists.specs.Pick.{pick, pick_true, pick_false}
 use Rattle.lists.specs.Tables.{padded, padded_take}
 use Rattle.lists.specs.Setting.{how_many_map}
@@ -228,8 +228,8 @@ module _ (ret : Ret) (q : List Entry) (c : ℕ) (l : Names) where
   unfolding looks_of flags_of
   fresh_counted =
       let flags = map (entered q c) l.asks in
-      ap (λ (n : ℕ). howMany not (take n (padded longest_list false flags))) (sym (length-map l.asks (entered q c)))
-      ∙ ap (howMany not) (padded_take longest_list false flags)
+      ap (λ (n : ℕ). how_many not (take n (padded longest_list false flags))) (sym (length-map l.asks (entered q c)))
+      ∙ ap (how_many not) (padded_take longest_list false flags)
       ∙ how_many_map (entered q c) (fresh q c) not (λ a. refl) l.asks ∙ sym (how_many_keep (fresh q c) l.asks)
 
 -- those that come, and none where a RET kind does not queue

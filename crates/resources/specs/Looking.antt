@@ -1,6 +1,6 @@
 -- What is looked for in the queue, before anything changes.
 use Rattle.std.specs.Prelude.{Bool, true, false, not, ◌&&◌, List, [], ◌∷◌, map, ℕ, ◌+◌, ltb, take, replicate}
-use Rattle.lists.specs.Lists.{howMany, numbers}
+use Rattle.lists.specs.Lists.{how_many, numbers}
 use Rattle.kinds.specs.Limits.{longest_list, most_entries}
 use Rattle.kinds.specs.declared.numbers.TaskNumber.{TaskNumber}
 use Rattle.kinds.specs.declared.requests.Ret.{Ret}
@@ -89,7 +89,7 @@ queues_by Chng zero = false
 
 -- how many of the first n names the caller has no entry for
 abbrev pub fresh_names : Flags → ℕ → ℕ
-fresh_names has n = howMany not (take n has.of)
+fresh_names has n = how_many not (take n has.of)
 
 -- 105, of a queue with so many entries
 unfoldable pub few_free : Ret → Looks → ℕ → ℕ → Bool

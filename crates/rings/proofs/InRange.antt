@@ -7,7 +7,7 @@ use native.Mathlib.Omega.{arith}
 use lib.ListN.{length, take, get_or, length-map, get_or-map}
 use lib.Seq.{length-take-le, get_or-take}
 use Rattle.lists.specs.Lists.{every}
-use Rattle.lists.specs.Setting.{every_at}
+use Rattle.lists.specs.Setting.{every_at_lem}
 use Rattle.kinds.specs.Limits.{lowest_task, highest_task}
 use Rattle.kinds.specs.Ranges.{task_good}
 use Rattle.kinds.specs.Within.{within}
@@ -26,4 +26,4 @@ task_high es n i d h k m =
     let e = get_or-take n (map entry_of es) i (entry_of d) k ∙ get_or-map entry_of es i d in
     good_high (get_or es i d).task.0
     (ap (λ (x : Entry). task_good x.task) (sym e)
-    ∙ every_at (λ (x : Entry). task_good x.task) (take n (map entry_of es)) i (entry_of d) h (omega arith))
+    ∙ every_at_lem (λ (x : Entry). task_good x.task) (take n (map entry_of es)) i (entry_of d) h (omega arith))

@@ -11,7 +11,7 @@ ghost use Rattle.std.specs.Prelude.{◌≡◌, true, ◌≤◌};
 ghost use Rattle.lists.specs.Lists.{every};
 ghost use Rattle.kinds.specs.Limits.{most_entries};
 ghost use Rattle.kinds.specs.Ranges.{task_good};
-ghost use Rattle.rules.specs.Rings.{stuck as stuckOf};
+ghost use Rattle.rules.specs.Rings.{stuck as stuck_of};
 ghost use Rattle.queue.specs.Queues.{entries_in};
 ghost use Rattle.queue.specs.Marking.{marked_by};
 
@@ -21,7 +21,7 @@ use queue::{Marks, Queue};
 pub(crate) fn stuck(q: Queue) -> Marks
     requires count_le_most_entries { q.count ≤ most_entries }
     requires q_value { every (λ e. task_good e.task) (entries_in q) ≡ true }
-    ensures { result ≡ marked_by (stuckOf (entries_in q)) }
+    ensures { result ≡ marked_by (stuck_of (entries_in q)) }
 {
     let s = ways::steps(q);
     let w = ways::closed(s);

@@ -48,8 +48,8 @@ module _ (T : Type 0) (ts : List Check) (t : T) (abended : TaskNumber → ℕ �
 
 -- and of the fresh start: "(else 101, and a step already over with code 0 comes back)"; where its numbers are good, the
 -- step that begins comes back
-pub record FreshDemand (T : Type 0) (overNow begun : T) (limit dispatching : ℕ) (o : Outcome T) : Type 0 where
-  pub given : fresh_good limit dispatching ≡ false → o ≡ refused OutOfRange overNow
+pub record FreshDemand (T : Type 0) (over_now begun : T) (limit dispatching : ℕ) (o : Outcome T) : Type 0 where
+  pub given : fresh_good limit dispatching ≡ false → o ≡ refused OutOfRange over_now
   pub starts : fresh_good limit dispatching ≡ true → o ≡ done begun
 
 abbrev pub abended_from : Step → TaskNumber → ℕ → Step

@@ -14,7 +14,7 @@ use Rattle.rules.specs.Fresh.{fresh_of}
 use Rattle.rules.specs.Sound.{sound_step}
 use Rattle.rules.specs.Alike.{same_entry}
 use Rattle.rules.specs.Serve.{Asked, serve_of}
-use Rattle.rules.specs.Reading.{Turn, nothing, queue_read, one_at_aTime}
+use Rattle.rules.specs.Reading.{Turn, nothing, queue_read, one_at_a_time}
 
 -- RUNS: any requests, each answered as the services' promise says
 
@@ -67,9 +67,9 @@ pub record Demand3 (us : List Turn) (s : Step) : Type 0 where
   pub waiting : (t : ℕ) → waits_in s t ≡ lacks t (queue_read us)
   -- "If also no task in that run made an ENQ that was queued while it still had an earlier one queued, then no ring of
   -- tasks waits on itself for resources, .."
-  pub ringless : one_at_aTime nothing us ≡ true → Ring (queue_read us) → ⊥
+  pub ringless : one_at_a_time nothing us ≡ true → Ring (queue_read us) → ⊥
   -- ".. and whenever some task waits for a resource, some task with a queued request isn't in a resource wait."
-  pub moving : one_at_aTime nothing us ≡ true → (t : ℕ) → waits_in s t ≡ true
+  pub moving : one_at_a_time nothing us ≡ true → (t : ℕ) → waits_in s t ≡ true
       → (u : ℕ) × (some (of_task u) (queue_read us) ≡ true) × (waits_in s u ≡ false)
 
 -- THE DEMAND

@@ -1,7 +1,7 @@
 -- RESOURCE WAITS: whenever the queue changes, each task's resource wait becomes what control says.
 use Rattle.std.specs.Prelude.{ℕ, List}
 use Rattle.lists.specs.Pick.{pick}
-use Rattle.lists.specs.Lists.{mapAt}
+use Rattle.lists.specs.Lists.{map_at}
 use Rattle.kinds.specs.Tasks.{with_condition}
 use Rattle.kinds.specs.declared.tasks.Task.{Task}
 use Rattle.kinds.specs.declared.tasks.Condition.{Condition}
@@ -30,7 +30,7 @@ unfoldable pub wait_at : List Entry → ℕ → Task → Task
 wait_at q n x = pick (lacks n q) (with_condition x (held_up x.condition)) (with_condition x (let_go x.condition))
 
 abbrev pub waits_by : List Entry → List Task → List Task
-waits_by q ts = mapAt (wait_at q) 1 ts
+waits_by q ts = map_at (wait_at q) 1 ts
 
 -- the queue becomes q, and every resource wait what control says
 abbrev pub requeued : Step → List Entry → Step

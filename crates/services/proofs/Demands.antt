@@ -25,42 +25,42 @@ use Rattle.laws.specs.Demanded.{demand_one as rules-demand-one, storage_served, 
 use Rattle.services.specs.Kept.{step_of, tables_of, served_by, soundb, answered, answered_with}
 use Rattle.services.specs.Serve.{served_of}
 use Rattle.services.specs.declared.Tables.{Tables}
-use Rattle.services.proofs.Serves.{serviceAt, sound_serves, serve_refuses, serve_abends}
+use Rattle.services.proofs.Serves.{service_at, sound_serves, serve_refuses, serve_abends}
 
 -- OF ANY TABLES AND ANY REQUEST
 
 module _ (t : Tables) (a : Asked) where
   -- the request's tests, in the paper's order
-  abbrev pub testsIn : List Check
-  testsIn =
+  abbrev pub tests_in : List Check
+  tests_in =
       refuse Unsound (not (soundb t)) ∷ service_tests (step_of t) a.request a.names a.ecbs (length a.area)
 
   -- what ABEND without STEP leaves
-  abbrev pub abendedIn : TaskNumber → ℕ → Tables
-  abendedIn c code = (answered t (λ s. abend_of s c code false)).tables
+  abbrev pub abended_in : TaskNumber → ℕ → Tables
+  abended_in c code = (answered t (λ s. abend_of s c code false)).tables
 
   numbered_at : (b : Bool)
       → Numbered (refuse Unsound (not b) ∷ service_tests (step_of t) a.request a.names a.ecbs (length a.area))
-      (pick b (served_by (serviceAt t a)) (untouched a.area (refused Unsound t))).outcome.number
+      (pick b (served_by (service_at t a)) (untouched a.area (refused Unsound t))).outcome.number
   unfolding pick
   numbered_at true =
-      let d = sorted (step_of t) (caller_of a.request) a.area _ (serviceAt t a)
+      let d = sorted (step_of t) (caller_of a.request) a.area _ (service_at t a)
       (service_sorts (step_of t) a.request a.names a.ecbs a.area) in
       record { k = d.k; ends = d.ends; is = d.is }
   numbered_at false = record { k = 0; ends = inl refl; is = refl }
 
-  numbered_in : Numbered testsIn (served_of t a).outcome.number
+  numbered_in : Numbered tests_in (served_of t a).outcome.number
   unfolding served_of answered_with
   numbered_in = numbered_at (soundb t)
 
-  pub demand_one : Demand1 Tables testsIn t abendedIn a (served_of t a)
+  pub demand_one : Demand1 Tables tests_in t abended_in a (served_of t a)
   demand_one =
       let n = (served_of t a).outcome.number in
       record {
         ordered = (tested (step_of t) a.request a.names a.ecbs (length a.area)).ordered;
-        given = number_given testsIn n numbered_in;
-        when = number_when testsIn n numbered_in;
-        goes = number_goes testsIn n numbered_in;
+        given = number_given tests_in n numbered_in;
+        when = number_when tests_in n numbered_in;
+        goes = number_goes tests_in n numbered_in;
         unchanged = serve_refuses t a;
         ends = λ what e.
             let k = serve_abends t a what e in
@@ -86,7 +86,7 @@ module _ (t : Tables) (a : Asked) where
         let l = (step_of t).areas in
         subst (λ (r : Served Tables). Answers Tables l w conditional r.outcome)
         (sym (sound_serves t a (request_sound (soundb t) (step_of t) c bytes subpool h)))
-        (answers_kept l w conditional (serviceAt t a).outcome
+        (answers_kept l w conditional (service_at t a).outcome
         (storage_served (step_of t) a (soundb t) c bytes subpool conditional e h few));
   }
 

@@ -122,23 +122,23 @@ entries_point q = ap all_pointers (entries_shown q) ∙ each (take q.count q.slo
         (eq_name (pointer s.name.0) _ refl) (each l)
 
 module _ (t : Tables) (h : soundb t ≡ true) where
-  abbrev pub namesOfStep : List Resource
-  namesOfStep = entry_names (step_of t).queue
+  abbrev pub names_of_step : List Resource
+  names_of_step = entry_names (step_of t).queue
 
-  pub names_are : namesOfStep ≡ area.names_of t.names.bytes (offsets_in t.all.queue)
+  pub names_are : names_of_step ≡ area.names_of t.names.bytes (offsets_in t.all.queue)
   names_are = names_shown t.names.bytes (entries_in t.all.queue)
 
   -- with pointers again
-  pub back : (ms : List Resource) → re_step (point_to (namesOfStep ++ ms)) (step_of t) ≡ all.step_of t.all
+  pub back : (ms : List Resource) → re_step (point_to (names_of_step ++ ms)) (step_of t) ≡ all.step_of t.all
   back ms =
       ap (λ (ns : List Resource). re_step (point_to (ns ++ ms)) (step_of t)) names_are
       ∙ ap (with_queue (all.step_of t.all))
       (back_pointed t.names.bytes (entries_in t.all.queue) ms (entries_point t.all.queue) (area_kept t h))
 
-  pub back_alone : re_step (point_to namesOfStep) (step_of t) ≡ all.step_of t.all
-  back_alone = ap (λ (ns : List Resource). re_step (point_to ns) (step_of t)) (sym (append-nil namesOfStep)) ∙ back []
+  pub back_alone : re_step (point_to names_of_step) (step_of t) ≡ all.step_of t.all
+  back_alone = ap (λ (ns : List Resource). re_step (point_to ns) (step_of t)) (sym (append-nil names_of_step)) ∙ back []
 
-  area_is : t.names ≡ area_of namesOfStep
+  area_is : t.names ≡ area_of names_of_step
   area_is = λ i. record {
     bytes = ((area_kept t h).area ∙ ap₂ area_for (area_long t h) (sym names_are)) i;
   }
@@ -363,7 +363,7 @@ module _ (before : Queue) (t : AllTables) (a : NameArea) (l : Left before t.queu
 module _ (t : Tables) (h : soundb t ≡ true) (r : Request) (asked : Names) (es : Ecbs) (lent : List ℕ)
     (tested : NamesTested r asked) where
   abbrev before : List Resource
-  before = namesOfStep t h
+  before = names_of_step t h
 
   abbrev all-names : List Resource
   all-names = before ++ names_of asked
@@ -554,10 +554,10 @@ module _ (t : Tables) (h : soundb t ≡ true) (r : Request) (asked : Names) (es 
         ∙ length-map after.queue (re_named pointing-to)
 
     -- the answer with other tables
-    abbrev withThese : Tables → Served Tables
-    withThese u = record { outcome = record { number = k.number; besides = k.besides; tables = u }; codes = written }
+    abbrev with_these : Tables → Served Tables
+    with_these u = record { outcome = record { number = k.number; besides = k.besides; tables = u }; codes = written }
 
-    answers_so : (u : Tables) → u ≡ tables_of after → withThese u ≡ served_by (service_of (step_of t) r asked es lent)
+    answers_so : (u : Tables) → u ≡ tables_of after → with_these u ≡ served_by (service_of (step_of t) r asked es lent)
     answers_so u v = λ i. record {
       outcome = record { number = (so i).outcome.number; besides = (so i).outcome.besides; tables = v i };
       codes = (so i).codes;
@@ -577,13 +577,13 @@ module _ (t : Tables) (h : soundb t ≡ true) (r : Request) (asked : Names) (es 
       }
 
       pub left_answers : (u : Tables) → u ≡ repacked k.tables t.names
-          → withThese u ≡ served_by (service_of (step_of t) r asked es lent)
+          → with_these u ≡ served_by (service_of (step_of t) r asked es lent)
       left_answers u v =
           answers_so u (v ∙ ap (λ (x : AllTables). repacked x t.names) tables_are ∙ left_kept few)
 
     module _ (l : NameList) (is : asked ≡ names_in l) (good : names_good asked ≡ true) (c : Came) where
       pub joined_answers : (u : Tables) → u ≡ joined_by k.tables t.names l (points_to before l)
-          → withThese u ≡ served_by (service_of (step_of t) r asked es lent)
+          → with_these u ≡ served_by (service_of (step_of t) r asked es lent)
       joined_answers u v =
           answers_so u (v ∙ ap (λ (x : AllTables). joined_by x t.names l (points_to before l)) tables_are
           ∙ joined_kept l is good c.test c.names c.rest)
@@ -626,12 +626,12 @@ unasked_same s Dispatch ns ms es lent h = refl
 
 -- and so brings none
 pub unasked_few : (t : Tables) (h : soundb t ≡ true) (r : Request) (es : Ecbs) (lent : List ℕ) (u : NamesTested r no_ask)
-    → every (λ (n : Resource). is_in n (namesOfStep t h)) (entry_names (after t h r no_ask es lent u).queue) ≡ true
+    → every (λ (n : Resource). is_in n (names_of_step t h)) (entry_names (after t h r no_ask es lent u).queue) ≡ true
 unasked_few t h r es lent u = one (names_after (step_of t) r no_ask es lent)
   where
-    one : NamesAfter (namesOfStep t h) [] (entry_names (after t h r no_ask es lent u).queue)
-        → every (λ (n : Resource). is_in n (namesOfStep t h)) (entry_names (after t h r no_ask es lent u).queue) ≡ true
+    one : NamesAfter (names_of_step t h) [] (entry_names (after t h r no_ask es lent u).queue)
+        → every (λ (n : Resource). is_in n (names_of_step t h)) (entry_names (after t h r no_ask es lent u).queue) ≡ true
     one (fewer a b) = a
     one (more p e k) =
-        ap (every (λ (n : Resource). is_in n (namesOfStep t h))) (e ∙ append-nil (namesOfStep t h))
-        ∙ in_itself (namesOfStep t h)
+        ap (every (λ (n : Resource). is_in n (names_of_step t h))) (e ∙ append-nil (names_of_step t h))
+        ∙ in_itself (names_of_step t h)

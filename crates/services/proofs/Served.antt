@@ -124,7 +124,7 @@ module _ (t : Tables) (r : Request) (l : NameList) (es : Ecbs) (lent : List ℕ)
       (chain_and (every legal (names_of (names_in l))) _ b.1).0
 
   abbrev before : List Resource
-  before = names.namesOfStep t a.sound
+  before = names.names_of_step t a.sound
 
   -- the names are looked up among those in use
   module _ (at : Offsets) (o : at ≡ offsets_at t.all.queue) where

@@ -25,10 +25,10 @@ abbrev number_of : Served Tables → ℕ
 number_of o = o.outcome.number
 
 module _ (t : Tables) (a : Asked) where
-  abbrev pub serviceAt : Served Step
-  serviceAt = service_of (step_of t) a.request a.names a.ecbs a.area
+  abbrev pub service_at : Served Step
+  service_at = service_of (step_of t) a.request a.names a.ecbs a.area
 
-  pub sound_serves : soundb t ≡ true → served_of t a ≡ served_by serviceAt
+  pub sound_serves : soundb t ≡ true → served_of t a ≡ served_by service_at
   unfolding served_of answered_with
   sound_serves h = pick_true (soundb t) _ _ h
 
@@ -40,7 +40,7 @@ module _ (t : Tables) (a : Asked) where
   pub serve_leaves_sound : soundb t ≡ true → soundb (served_of t a).outcome.tables ≡ true
   serve_leaves_sound h =
       ap (λ (o : Served Tables). soundb o.outcome.tables) (sound_serves h)
-      ∙ sound_kept serviceAt.outcome.tables
+      ∙ sound_kept service_at.outcome.tables
       (service_of_sound (step_of t) a.request a.names a.ecbs a.area (sound_step_lem t h))
 
   -- A REFUSAL CHANGES NOTHING

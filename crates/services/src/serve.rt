@@ -7,7 +7,7 @@ ghost use Rattle.names.specs.Pointers.{pointed_in};
 ghost use Rattle.ecbs.specs.Blocks.{ecbs_in};
 ghost use Rattle.rules.specs.Serve.{service_of};
 ghost use Rattle.tables.specs.Bodies.{replied};
-ghost use Rattle.tables.specs.Tables.{step_of as allStepOf};
+ghost use Rattle.tables.specs.Tables.{step_of as all_step_of};
 ghost use Rattle.services.specs.Kept.{in_tables, step_of, said, said_with, served_by, answered};
 ghost use Rattle.services.specs.Serve.{served_of, caller_in, named_by, entry_of, asks_names, Admits, Behind};
 ghost use Rattle.services.specs.Serve.{Settles, served_in};
@@ -149,7 +149,7 @@ fn worked(
 ) -> Upshot
     requires { Behind t request (pointed_in names) }
     ensures { record { outcome = replied result.reply result.tables; codes = codes.new }
-        ≡ served_in (service_of (allStepOf t) request (pointed_in names) (ecbs_in ecbs) codes.old) }
+        ≡ served_in (service_of (all_step_of t) request (pointed_in names) (ecbs_in ecbs) codes.old) }
 {
     let who = caller_of(request);
     settled(who, served(t, request, names, ecbs, codes))

@@ -1,7 +1,7 @@
 // Areas: where they lie, and when two are apart.
 ghost use Rattle.std.specs.Prelude.{◌≡◌};
 ghost use Rattle.rules.specs.Storage.{start_of, past_end, one_holder, bytes_apart, first_page, past_page, pages_apart};
-ghost use Rattle.rules.specs.Storage.{apart as apartOf, same_area};
+ghost use Rattle.rules.specs.Storage.{apart as apart_of, same_area};
 ghost use Rattle.rules.specs.SoundAreas.{area_shape_good};
 
 use kinds::{Address, Area};
@@ -64,7 +64,7 @@ fn pages_apart(a: Area, b: Area) -> bool
 
 // No byte in common, and no page unless of one holder.
 pub fn apart(a: Area, b: Area) -> bool
-    ensures { result ≡ apartOf a b }
+    ensures { result ≡ apart_of a b }
 {
     if !bytes_apart(a, b) {
         return false;

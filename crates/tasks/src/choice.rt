@@ -1,7 +1,7 @@
 // Which task: the one to run, and the place for a new one.
 ghost use Rattle.std.specs.Prelude.{◌≡◌};
 ghost use Rattle.rules.specs.Attach.{lowest_free};
-ghost use Rattle.rules.specs.Dispatch.{dispatched as dispatchedOf};
+ghost use Rattle.rules.specs.Dispatch.{dispatched as dispatched_of};
 ghost use Rattle.tasks.specs.Highest.{raised_to, highest, reaching};
 
 use crate::TaskTable;
@@ -62,7 +62,7 @@ fn reaches(x: Task, h: u8) -> bool
 
 // The ready task of highest dispatching priority, the lowest number among equals, or 0 if none is ready.
 pub fn dispatched(f: TaskTable) -> TaskNumber
-    ensures { result.0 ≡ dispatchedOf f.places }
+    ensures { result.0 ≡ dispatched_of f.places }
 {
     let h = highest_ready(f);
     let mut i: usize = 0;

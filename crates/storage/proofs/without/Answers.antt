@@ -31,7 +31,7 @@ loop-i-preserved c =
       omega arith,
       omega arith,
       elim c.if-not-same_area.branch [
-        then-not-same_area w ↦ swept_kept table v (omega arith) (omega arith) _ (same ∙ (not_from_false _ w.if-not-same_area.true)) w.r-is
+        | then-not-same_area w ↦ swept_kept table v (omega arith) (omega arith) _ (same ∙ (not_from_false _ w.if-not-same_area.true)) w.r-is
         | else-not-same_area w ↦ swept_passed table v (omega arith) (omega arith) _ (same ∙ (not_from_true _ w.if-not-same_area.false)) w.r-is
       ],
     )

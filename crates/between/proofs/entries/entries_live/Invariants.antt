@@ -9,12 +9,12 @@ use Rattle.kinds.specs.Limits.{highest_task}
 use Rattle.kinds.specs.declared.names.Slot.{Slot}
 use Rattle.kinds.specs.declared.tasks.Task.{Task}
 use Rattle.queue.specs.Queues.{entry_of}
-use Rattle.rules.specs.Family.{live as liveTask}
+use Rattle.rules.specs.Family.{live as live_task}
 use Rattle.rules.specs.Control.{Entry}
 use Rattle.between.proofs.entries.entries_live.Given as goal
 
 abbrev pub of_live : List Task → Entry → Bool
-of_live ts e = liveTask ts e.task
+of_live ts e = live_task ts e.task
 
 abbrev pub invariant-loop-i : goal.invariant-loop-i
 invariant-loop-i l =

@@ -2,7 +2,7 @@
 use Prim.Native.Nat.{◌+◌, ◌-◌}
 use mathlib.Core.Path.{◌≡◌}
 use lib.ListN.{length, drop}
-use Rattle.lists.specs.Lists.{everyAt}
+use Rattle.lists.specs.Lists.{every_at}
 use Rattle.kinds.specs.Limits.{highest_task}
 use Rattle.between.specs.Sound.{need_from}
 use Rattle.between.proofs.waiters.needs_good.Given as goal
@@ -10,7 +10,7 @@ use Rattle.between.proofs.waiters.needs_good.Given as goal
 abbrev pub invariant-loop-i : goal.invariant-loop-i
 invariant-loop-i l =
     (length l.f.places ≡ highest_task)
-    × (everyAt (need_from l.t.ecbs) 1 l.f.places ≡ everyAt (need_from l.t.ecbs) (l.i + 1) (drop l.i l.f.places))
+    × (every_at (need_from l.t.ecbs) 1 l.f.places ≡ every_at (need_from l.t.ecbs) (l.i + 1) (drop l.i l.f.places))
 
 abbrev pub decreases-loop-i : goal.decreases-loop-i
 decreases-loop-i l = highest_task - l.i

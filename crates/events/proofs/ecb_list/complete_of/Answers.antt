@@ -1,6 +1,6 @@
 use Prim.Native.Nat.{ℕ, ◌+◌}
 use mathlib.Core.Path.{refl, ap, ◌∙◌}
-use Rattle.lists.specs.Lists.{howMany}
+use Rattle.lists.specs.Lists.{how_many}
 use Rattle.lists.specs.Arrays.{mapped_length}
 use Rattle.events.proofs.Listing.{shown, counted, not_counted, whole}
 use Rattle.events.proofs.Waiting.{past_incomplete}
@@ -32,4 +32,4 @@ loop-i-preserved c =
 pub returns : goal.returns
 returns c =
     let l = c.loop-i in
-    l.invariant.3 ∙ ap (howMany _) (whole l.invariant.0 l.i (omega arith))
+    l.invariant.3 ∙ ap (how_many _) (whole l.invariant.0 l.i (omega arith))

@@ -1,7 +1,7 @@
 use Prim.Native.Nat.{ℕ}
 use mathlib.Core.Path.{ap, ◌∙◌}
 use mathlib.Core.List.{List}
-use Rattle.lists.specs.Lists.{mapAt}
+use Rattle.lists.specs.Lists.{map_at}
 use Rattle.lists.specs.Arrays.{mapped_length}
 use Rattle.rules.specs.Wait.{wait_set}
 use Rattle.ecbs.specs.Blocks.{ecb_table_of}
@@ -38,4 +38,4 @@ returns c =
     let a = c.args in
     let w = whole l.invariant.0 l.i (omega arith) in
     ap ecb_table_of (l.invariant.2
-    ∙ ap (λ (k : List ℕ). mapAt (wait_set a.c.0 (record { count = a.l.count; ecbs = k })) 0 a.e.ecbs) w)
+    ∙ ap (λ (k : List ℕ). map_at (wait_set a.c.0 (record { count = a.l.count; ecbs = k })) 0 a.e.ecbs) w)

@@ -45,7 +45,7 @@ loop-i-preserved c =
       omega arith,
       omega arith,
       elim c.if-not-skip-i.branch [
-        then-not-skip-i w ↦ tailed_next v (omega arith) (omega arith) (omega arith) _ w.if-not-skip-i.true _ w.r-is
+        | then-not-skip-i w ↦ tailed_next v (omega arith) (omega arith) (omega arith) _ w.if-not-skip-i.true _ w.r-is
         | else-not-skip-i w ↦ tailed_passed v (omega arith) (omega arith) (omega arith) _ w.if-not-skip-i.false w.r-is
       ],
     )

@@ -60,7 +60,7 @@ loop-i-preserved c =
       omega arith,
       omega arith,
       elim c.if-not-found.branch [
-        then-not-found w ↦ swept_kept table v (omega arith) (omega arith) _ (e ∙ (not_from_false _ w.if-not-found.true)) w.r-is
+        | then-not-found w ↦ swept_kept table v (omega arith) (omega arith) _ (e ∙ (not_from_false _ w.if-not-found.true)) w.r-is
         | else-not-found w ↦ swept_passed table v (omega arith) (omega arith) _ (e ∙ (not_from_true _ w.if-not-found.false)) w.r-is
       ],
     )

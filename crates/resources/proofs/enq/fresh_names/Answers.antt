@@ -4,7 +4,7 @@ use mathlib.Core.Bool.{not}
 use native.Mathlib.Omega.{arith}
 use borrow.Author.Rules.{rules}
 use lib.ListN.{take}
-use Rattle.lists.specs.Lists.{howMany}
+use Rattle.lists.specs.Lists.{how_many}
 use Rattle.lists.specs.Counting.{counted_start, counted_one, counted_not}
 use Rattle.std.proofs.lemmas.Bool.{not_from_true, not_from_false}
 use Rattle.resources.proofs.enq.fresh_names.Goals.{else-not-h, then-not-h}
@@ -30,4 +30,4 @@ returns c =
     let a = c.args in
     let l = c.loop-i in
     let e : l.i ≡ a.n = omega arith in
-    l.invariant.3.so_far ∙ ap (λ (j : ℕ). howMany not (take j a.has.of)) e
+    l.invariant.3.so_far ∙ ap (λ (j : ℕ). how_many not (take j a.has.of)) e

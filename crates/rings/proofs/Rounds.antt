@@ -16,7 +16,7 @@ use Rattle.laws.specs.Grouping.{same_numbers, firsts_all}
 use Rattle.laws.specs.OnRing.{waiter_has}
 use Rattle.queue.specs.Marking.{marked_by, Marked, marks_are}
 use Rattle.queue.specs.declared.marks.Marks.{Marks}
-use Rattle.rings.specs.Ways.{way_at_lem, ways_by, down, wide, way_at_lem, none_below}
+use Rattle.rings.specs.Ways.{way_at, ways_by, down, wide, way_at_lem, none_below}
 use Rattle.rings.specs.declared.ways.Ways.{Ways}
 use Rattle.rings.proofs.InRange.{good_high}
 
@@ -48,20 +48,20 @@ module _ (q : List Entry) (good : every (λ (e : Entry). task_good e.task) q ≡
       (sym (firsts_all same_numbers a (tasks_of q)) ∙ waiter_has q a b h)) in
       omega arith
 
-  round : (t : ℕ) → t < wide → leads_by (way_at_lem (ways_by (waits_for q))) (down wide) t t ≡ stuck q t
+  round : (t : ℕ) → t < wide → leads_by (way_at (ways_by (waits_for q))) (down wide) t t ≡ stuck q t
   unfolding stuck
   round t h =
-      leads_alike (way_at_lem (ways_by (waits_for q))) (waits_for q) (way_at_lem (waits_for q)) wide (omega arith) t t h h
+      leads_alike (way_at (ways_by (waits_for q))) (waits_for q) (way_at_lem (waits_for q)) wide (omega arith) t t h h
       ∙ by_same (waits_for q) (down wide) (tasks_queued q) (λ a b k. down_has a wide (below a b k))
       (waiter_has q) t t
 
-  pub ring_marks : (s w : Ways) → s ≡ ways_by (waits_for q) → w ≡ ways_by (leads_by (way_at_lem s) (down wide))
-      → (m : Marks) (n : ℕ) → wide ≤ n → Marked (λ (t : ℕ). way_at_lem w t t) n m → m ≡ marked_by (stuck q)
+  pub ring_marks : (s w : Ways) → s ≡ ways_by (waits_for q) → w ≡ ways_by (leads_by (way_at s) (down wide))
+      → (m : Marks) (n : ℕ) → wide ≤ n → Marked (λ (t : ℕ). way_at w t t) n m → m ≡ marked_by (stuck q)
   ring_marks s w d e m n h v =
       marks_are (stuck q) wide m (omega arith)
       (record { long = v.long; each = λ t k. v.each t (omega arith) ∙ at t k })
     where
-      at : (t : ℕ) → t < wide → way_at_lem w t t ≡ stuck q t
+      at : (t : ℕ) → t < wide → way_at w t t ≡ stuck q t
       at t k =
-          ap (λ (x : Ways). way_at_lem x t t) (e ∙ ap (λ (x : Ways). ways_by (leads_by (way_at_lem x) (down wide))) d)
-          ∙ way_at_lem (leads_by (way_at_lem (ways_by (waits_for q))) (down wide)) t t k k ∙ round t k
+          ap (λ (x : Ways). way_at x t t) (e ∙ ap (λ (x : Ways). ways_by (leads_by (way_at x) (down wide))) d)
+          ∙ way_at_lem (leads_by (way_at (ways_by (waits_for q))) (down wide)) t t k k ∙ round t k

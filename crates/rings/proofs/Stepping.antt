@@ -18,7 +18,7 @@ use Rattle.rules.specs.Rings.{bars, waits_from, waits_for}
 use Rattle.laws.specs.Among.{some_besides}
 use Rattle.laws.specs.OnRing.{bars_of, barred_lacks}
 use Rattle.queue.specs.Queues.{entry_of}
-use Rattle.rings.specs.Ways.{Full, full_at, full_same, full_set, way_at_lem, wide, all_ways}
+use Rattle.rings.specs.Ways.{Full, full_at, full_same, full_set, way_at, wide, all_ways}
 use Rattle.rings.specs.declared.ways.Ways.{Ways}
 
 -- one more entry: whoever waited waits, and its task too where one bars it
@@ -104,7 +104,7 @@ module _ (l : List Entry) (e : Entry) (p : List Entry) (x : Entry) (m : Ways) (v
 
   -- both tasks have places: whether x is a step is written
   step_written : (so : Bool) → e.task < wide → x.task < wide
-      → so ≡ (way_at_lem m e.task x.task || (not (eqb e.task x.task) && bars x e))
+      → so ≡ (way_at m e.task x.task || (not (eqb e.task x.task) && bars x e))
       → Full (steps_with l e (p ++ (x ∷ []))) (record { of = set m.of (e.task * wide + x.task) so })
   step_written so h k q =
       full_set (steps_with l e p) (steps_with l e (p ++ (x ∷ []))) m e.task x.task so h k
@@ -148,7 +148,7 @@ module _ {es : List Slot} {e : Slot} {i j : ℕ} {m : Ways} (v : Stepping es e i
       (ltb-true e.task.0 wide k.0, ltb-true (get_or es j d).task.0 wide k.1)
 
   pub steps_next : (so : Bool) → j < length es → (ltb e.task.0 wide && ltb (get_or es j d).task.0 wide) ≡ true
-      → so ≡ (way_at_lem m e.task.0 (get_or es j d).task.0
+      → so ≡ (way_at m e.task.0 (get_or es j d).task.0
       || (not (eqb e.task.0 (get_or es j d).task.0) && bars (entry_of (get_or es j d)) (entry_of e)))
       → Stepping es e i (j + 1) (record { of = set m.of (e.task.0 * wide + (get_or es j d).task.0) so })
   steps_next so h t k = record {

@@ -19,8 +19,8 @@ abbrev pub all_ways : ℕ
 all_ways = wide * wide
 
 -- from a to b
-abbrev pub way_at_lem : Ways → ℕ → ℕ → Bool
-way_at_lem m a b = get_or m.of (a * wide + b) false
+abbrev pub way_at : Ways → ℕ → ℕ → Bool
+way_at m a b = get_or m.of (a * wide + b) false
 
 -- those between which a test holds
 unfoldable pub ways_by : (ℕ → ℕ → Bool) → Ways
@@ -63,13 +63,13 @@ Full test m = Filled test all_ways m
 full : (test : ℕ → ℕ → Bool) → Full test (ways_by test)
 full test = record { long = ways_long test; each = way_of test }
 
-pub full_at : (test : ℕ → ℕ → Bool) (m : Ways) (a b : ℕ) → a < wide → b < wide → Full test m → way_at_lem m a b ≡ test a b
+pub full_at : (test : ℕ → ℕ → Bool) (m : Ways) (a b : ℕ) → a < wide → b < wide → Full test m → way_at m a b ≡ test a b
 full_at test m a b h k v =
     let p : (a * wide + b) / wide ≡ a = omega arith in
     let q : (a * wide + b) % wide ≡ b = omega arith in
     v.each (a * wide + b) (omega arith) ∙ ap₂ test p q
 
-pub way_at_lem : (test : ℕ → ℕ → Bool) (a b : ℕ) → a < wide → b < wide → way_at_lem (ways_by test) a b ≡ test a b
+pub way_at_lem : (test : ℕ → ℕ → Bool) (a b : ℕ) → a < wide → b < wide → way_at (ways_by test) a b ≡ test a b
 way_at_lem test a b h k = full_at test (ways_by test) a b h k (full test)
 
 -- two tests that agree on the numbers that it is about are one to it
@@ -83,9 +83,9 @@ full_same f g m h v = record {
 ways_same : (f g : ℕ → ℕ → Bool) → ((a b : ℕ) → a < wide → b < wide → f a b ≡ g a b) → ways_by f ≡ ways_by g
 ways_same f g h = ways_are g all_ways (ways_by f) (omega arith) (full_same f g (ways_by f) h (full f))
 
-ways_whole : (m : Ways) → length m.of ≡ all_ways → m ≡ ways_by (way_at_lem m)
+ways_whole : (m : Ways) → length m.of ≡ all_ways → m ≡ ways_by (way_at m)
 ways_whole m h =
-    ways_are (way_at_lem m) all_ways m (omega arith)
+    ways_are (way_at m) all_ways m (omega arith)
     (record {
       long = h;
       each = λ i k. let e : i ≡ i / wide * wide + i % wide = omega arith in ap (λ (j : ℕ). get_or m.of j false) e;
@@ -130,11 +130,11 @@ full_set f g m a b so h k e other v =
 
 -- A WAY LEADS ON from k
 unfoldable pub leads_on : Ways → ℕ → Bool
-leads_on m k = some (way_at_lem m k) (down wide)
+leads_on m k = some (way_at m k) (down wide)
 
 -- a loop that looks for one: the answer is that of the numbers below n
 pub record LeadsYet (m : Ways) (k n : ℕ) : Type 0 where
-  pub left : leads_on m k ≡ some (way_at_lem m k) (down n)
+  pub left : leads_on m k ≡ some (way_at m k) (down n)
 
 pub leads_start : {m : Ways} {k : ℕ} → LeadsYet m k wide
 unfolding leads_on
@@ -142,15 +142,15 @@ leads_start = record { left = refl }
 
 module _ {m : Ways} {k n : ℕ} (v : LeadsYet m k n) where
   pub leads_over : n ≡ 0 → false ≡ leads_on m k
-  leads_over e = sym (v.left ∙ ap (λ (i : ℕ). some (way_at_lem m k) (down i)) e)
+  leads_over e = sym (v.left ∙ ap (λ (i : ℕ). some (way_at m k) (down i)) e)
 
   -- the highest of them, of which b tells
-  module _ (h : 0 < n) {b : Bool} (t : b ≡ way_at_lem m k (n - 1)) where
-    looked : leads_on m k ≡ (b || some (way_at_lem m k) (down (n - 1)))
+  module _ (h : 0 < n) {b : Bool} (t : b ≡ way_at m k (n - 1)) where
+    looked : leads_on m k ≡ (b || some (way_at m k) (down (n - 1)))
     looked =
         let e : n ≡ suc (n - 1) = omega arith in
-        v.left ∙ ap (λ (i : ℕ). some (way_at_lem m k) (down i)) e
-        ∙ ap (λ (a : Bool). a || some (way_at_lem m k) (down (n - 1))) (sym t)
+        v.left ∙ ap (λ (i : ℕ). some (way_at m k) (down i)) e
+        ∙ ap (λ (a : Bool). a || some (way_at m k) (down (n - 1))) (sym t)
 
     pub leads_found : b ≡ true → true ≡ leads_on m k
     leads_found e = sym (looked ∙ rw e)
@@ -159,8 +159,8 @@ module _ {m : Ways} {k n : ℕ} (v : LeadsYet m k n) where
     leads_further e = record { left = looked ∙ rw e }
 
 -- BY WAY OF k TOO
-abbrev pub joined_by_lem : Ways → ℕ → ℕ → ℕ → Bool
-joined_by_lem m k a b = way_at_lem m a b || (way_at_lem m a k && way_at_lem m k b)
+abbrev pub joined_by : Ways → ℕ → ℕ → ℕ → Bool
+joined_by m k a b = way_at m a b || (way_at m a k && way_at m k b)
 
 -- what a test that none below n passes says of each
 pub none_below : (f : ℕ → Bool) (n : ℕ) → some f (down n) ≡ false → (k : ℕ) → k < n → f k ≡ false
@@ -172,43 +172,43 @@ none_below f (suc n) h k l = one (eqb k n) refl (none_below f n (or_right (f n) 
     one false q ih = ih (omega (arith, eqb-false k n q))
 
 -- where none leads on from k, it adds nothing
-pub joined_none : (m : Ways) (k : ℕ) → length m.of ≡ all_ways → leads_on m k ≡ false → m ≡ ways_by (joined_by_lem m k)
+pub joined_none : (m : Ways) (k : ℕ) → length m.of ≡ all_ways → leads_on m k ≡ false → m ≡ ways_by (joined_by m k)
 unfolding leads_on
 joined_none m k h e =
     ways_whole m h
-    ∙ ways_same (way_at_lem m) (joined_by_lem m k)
-    (λ a b p q. rw (none_below (way_at_lem m k) wide e b q) (none (way_at_lem m a b) (way_at_lem m a k)))
+    ∙ ways_same (way_at m) (joined_by m k)
+    (λ a b p q. rw (none_below (way_at m k) wide e b q) (none (way_at m a b) (way_at m a k)))
   where
     none : (x y : Bool) → x ≡ (x || (y && false))
     none true y = refl
     none false true = refl
     none false false = refl
 
-pub joined_next : (m r : Ways) (k n : ℕ) → n < all_ways → Filled (joined_by_lem m k) n r
-    → Filled (joined_by_lem m k) (n + 1)
+pub joined_next : (m r : Ways) (k n : ℕ) → n < all_ways → Filled (joined_by m k) n r
+    → Filled (joined_by m k) (n + 1)
     (record {
       of = set r.of n (get_or m.of n false
           || (get_or m.of (n / wide * wide + k) false && get_or m.of (k * wide + n % wide) false));
     })
 joined_next m r k n h v =
     let e : n ≡ n / wide * wide + n % wide = omega arith in
-    filled_next (joined_by_lem m k) n r _ h
+    filled_next (joined_by m k) n r _ h
     (ap (λ (j : ℕ). get_or m.of j false
     || (get_or m.of (n / wide * wide + k) false && get_or m.of (k * wide + n % wide) false)) e) v
 
 -- one number more to pass
 pub joined_by_lem : (w : ℕ → ℕ → Bool) (m : Ways) (k : ℕ) → k < wide → m ≡ ways_by (leads_by w (down k))
-    → ways_by (joined_by_lem m k) ≡ ways_by (leads_by w (down (k + 1)))
+    → ways_by (joined_by m k) ≡ ways_by (leads_by w (down (k + 1)))
 unfolding leads_by
 joined_by_lem w m k h e =
-    ways_same (joined_by_lem m k) (leads_by w (down (k + 1)))
+    ways_same (joined_by m k) (leads_by w (down (k + 1)))
     (λ a b p q. rw (add-one k) (ap₂ (λ (x y : Bool). x || y) (at a b p q)
     (ap₂ (λ (x y : Bool). x && y) (at a k p h) (at k b h q))))
   where
-    at : (a b : ℕ) → a < wide → b < wide → way_at_lem m a b ≡ leads_by w (down k) a b
-    at a b p q = ap (λ (x : Ways). way_at_lem x a b) e ∙ way_at_lem (leads_by w (down k)) a b p q
+    at : (a b : ℕ) → a < wide → b < wide → way_at m a b ≡ leads_by w (down k) a b
+    at a b p q = ap (λ (x : Ways). way_at x a b) e ∙ way_at_lem (leads_by w (down k)) a b p q
 
 -- a whole table, by way of nobody
-pub ways_none : (m : Ways) → length m.of ≡ all_ways → m ≡ ways_by (leads_by (way_at_lem m) (down 0))
+pub ways_none : (m : Ways) → length m.of ≡ all_ways → m ≡ ways_by (leads_by (way_at m) (down 0))
 unfolding leads_by
 ways_none m h = ways_whole m h

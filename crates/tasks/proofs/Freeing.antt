@@ -15,7 +15,7 @@ use Rattle.kinds.specs.declared.tasks.Task.{Task}
 use Rattle.rules.specs.Family.{place, with_place, used, mother, below, direct_subtask}
 use Rattle.rules.specs.Ending.{end_tasks}
 use Rattle.laws.specs.Conditions.{place_same, place_other}
-use Rattle.laws.specs.Wiping.{used_now, wiped, length_wiped, gone, kept, still, by_places, wiped_none, wiped_twice}
+use Rattle.laws.specs.Wiping.{in_use, wiped, length_wiped, gone, kept, still, by_places, wiped_none, wiped_twice}
 use Rattle.laws.specs.Chains.{only, used_same, mother_same, used_pos, used_within, used_places, wiped_fewer}
 use Rattle.laws.specs.Chains.{Chain, here, up, below_chain, chain_below, chain_goal}
 use Rattle.laws.specs.Ended.{stays, goes_last, goes_free, length_ended}
@@ -24,7 +24,7 @@ use Rattle.tasks.specs.Under.{under}
 use Rattle.tasks.proofs.Walks.{sub_mother, sub_make, under_chain, chain_under, unwiped}
 
 -- WHAT THE CODE READS of a place x, and whether it is in use, b
-module _ (ts : List Task) (n : ℕ) {x : Task} {b : Bool} (e : x ≡ place ts n) (u : b ≡ used_now x) where
+module _ (ts : List Task) (n : ℕ) {x : Task} {b : Bool} (e : x ≡ place ts n) (u : b ≡ in_use x) where
   pub read_free : not b ≡ true → used ts n ≡ false
   read_free h = use_of ts n x e false (sym u ∙ not-true b h)
 

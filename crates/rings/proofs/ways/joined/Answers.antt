@@ -1,7 +1,7 @@
 use native.Mathlib.Omega.{arith}
 use borrow.Author.Rules.{rules}
 use Rattle.lists.specs.Pick.{test_failed_not}
-use Rattle.rings.specs.Ways.{joined_by_lem, joined_none, joined_next, ways_are}
+use Rattle.rings.specs.Ways.{joined_by, joined_none, joined_next, ways_are}
 use Rattle.std.proofs.lemmas.Bool.{not_from_false}
 use Rattle.rings.proofs.ways.joined.Goals as goal
 
@@ -23,4 +23,4 @@ pub returns : goal.returns
 returns c =
     let l = c.loop-n in
     let a = c.args in
-    ways_are (joined_by_lem a.m a.k) l.n l.r (omega arith) l.invariant.3
+    ways_are (joined_by a.m a.k) l.n l.r (omega arith) l.invariant.3

@@ -49,7 +49,7 @@ def respelled(name):
     parts = name.split("-")
     if not all(parts) or not parts[0][0].isalpha():
         return name
-    parts = [p if is_type(p) else re.sub(r"(?<=[a-z0-9])[A-Z]", lambda m: "_" + m[0].lower(), p) for p in parts]
+    parts = [p if is_type(p) else re.sub(r"(?<!^)[A-Z]", lambda m: "_" + m[0].lower(), p) for p in parts]
     out = parts[0]
     for a, b in zip(parts, parts[1:]):
         out += ("-" if is_type(a) or is_type(b) else "_") + b

@@ -31,7 +31,7 @@ use Rattle.tasks.proofs.direct.has_subtasks.Reads as has_subtasks_fn
 use Rattle.impostors.specs.Fitting.{◌⊗◌, fits-TaskTable, fits-Task, fits-TaskNumber, fits_end}
 use Rattle.impostors.specs.Opened.{tables_open}
 use Rattle.impostors.specs.Wrong.{RuledOut, wrong_at, told_apart}
-use Rattle.impostors.specs.Samples.{task, ecb}
+use Rattle.impostors.specs.Samples.{task}
 use Rattle.impostors.specs.Parts.{last_best, tasks, first, ready, waiting, ended}
 
 -- a ready daughter of task 1 with these priorities

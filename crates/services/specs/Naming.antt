@@ -1,5 +1,5 @@
 -- The names that a request leaves in use.
-use Rattle.std.specs.Prelude.{◌≡◌, true, [], ℕ, ◌≤◌, eqb}
+use Rattle.std.specs.Prelude.{◌≡◌, true, ℕ, ◌≤◌, eqb}
 use Rattle.lists.specs.Lists.{every, some}
 use Rattle.kinds.specs.Limits.{most_entries}
 use Rattle.kinds.specs.declared.names.NameList.{NameList}

@@ -2,7 +2,6 @@ use native.Mathlib.Omega.{arith}
 use borrow.Author.Rules.{rules}
 use Rattle.lists.specs.Loops.{any_start, any_found, any_goes_on, any_over}
 use Rattle.lists.specs.Arrays.{mapped_length}
-use Rattle.rules.specs.Storage.{same_area}
 use Rattle.storage.proofs.has_area.Goals as goal
 
 pub loop-i-init : goal.loop-i-init

@@ -2,7 +2,7 @@ use native.Mathlib.Omega.{arith}
 use borrow.Author.Rules.{rules}
 use Rattle.lists.specs.Packed.{behind_start, behind_stops, behind_goes_on, behind_over}
 use Rattle.lists.specs.Arrays.{mapped_length}
-use Rattle.storage.specs.Stored.{is_zero, rest_zero}
+use Rattle.storage.specs.Stored.{rest_zero}
 use Rattle.storage.specs.Kept.{table}
 use Rattle.std.proofs.lemmas.Bool.{not_from_true, not_from_false}
 use Rattle.storage.proofs.rest_zero.Goals as goal

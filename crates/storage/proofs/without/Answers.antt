@@ -7,7 +7,6 @@ use lib.ListN.{take}
 use Rattle.lists.specs.Lists.{keep}
 use Rattle.lists.specs.Arrays.{mapped_length}
 use Rattle.lists.specs.Packed.{swept_start, swept_kept, swept_passed}
-use Rattle.rules.specs.Storage.{same_area}
 use Rattle.storage.specs.Stored.{stored_areas}
 use Rattle.storage.specs.Kept.{table}
 use Rattle.std.proofs.lemmas.Bool.{not_from_true, not_from_false}

@@ -1,4 +1,4 @@
-use mathlib.Core.Bool.{true, false, ◌&&◌, and-true}
+use mathlib.Core.Bool.{true, ◌&&◌, and-true}
 use mathlib.Core.Path.{refl, ap, ◌∙◌}
 use native.Mathlib.Nat.{le_antisymm}
 use native.Mathlib.Omega.{arith}

@@ -1,4 +1,3 @@
-use mathlib.Core.Bool.{false}
 use native.Mathlib.Nat.{le_antisymm}
 use native.Mathlib.Omega.{arith}
 use borrow.Author.Rules.{rules}

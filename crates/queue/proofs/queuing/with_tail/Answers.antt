@@ -2,12 +2,12 @@ use Prim.Native.Nat.{◌<◌}
 use mathlib.Core.Path.{◌≡◌}
 use native.Mathlib.Omega.{arith}
 use borrow.Author.Rules.{rules}
-use borrow.Author.Tests.{not-true, not-false}
+use borrow.Author.Tests.{not-true}
 use lib.ListN.{length}
 use Rattle.lists.specs.Arrays.{mapped_length}
 use Rattle.kinds.specs.Limits.{most_entries}
 use Rattle.queue.proofs.Builds.{tailed_start, tailed_room, tailed_next, tailed_passed, tailed_end}
-use Rattle.std.proofs.lemmas.Bool.{not_from_true, not_from_false}
+use Rattle.std.proofs.lemmas.Bool.{not_from_false}
 use Rattle.queue.proofs.queuing.with_tail.Goals.{Then-not-skip-i, else-not-skip-i, then-not-skip-i}
 use Rattle.queue.proofs.queuing.with_tail.Goals as goal
 

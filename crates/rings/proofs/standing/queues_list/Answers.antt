@@ -1,10 +1,10 @@
 use mathlib.Core.Path.{◌∙◌}
 use native.Mathlib.Omega.{arith}
 use borrow.Author.Rules.{rules}
-use borrow.Author.Tests.{not-true, not-false}
+use borrow.Author.Tests.{not-true}
 use Rattle.lists.specs.Arrays.{mapped_length}
 use Rattle.rings.proofs.ByName.{group_start, group_room, group_kept, group_passed, group_end}
-use Rattle.std.proofs.lemmas.Bool.{not_from_true, not_from_false}
+use Rattle.std.proofs.lemmas.Bool.{not_from_false}
 use Rattle.rings.proofs.standing.queues_list.Goals.{else-not-named_before, then-not-named_before}
 use Rattle.rings.proofs.standing.queues_list.Goals as goal
 

@@ -9,7 +9,6 @@ use Rattle.services.proofs.Glue.{behind_names, behind_admits, known, plain_known
 use mir.Syntax.{w16}
 use mir.Facts.{to_z-of_z}
 use Rattle.std.proofs.Common.{SFits, rules}
-use borrow.Author.Rules.{sfits_of}
 use Rattle.services.proofs.serve.served.Goals as goal
 
 pub served-requires : goal.served-requires

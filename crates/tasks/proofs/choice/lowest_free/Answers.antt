@@ -3,7 +3,6 @@ use borrow.Author.Rules.{rules}
 use Rattle.lists.specs.Arrays.{below, full}
 use Rattle.lists.specs.Numbered.{first_at_here, first_at_later, first_at_end}
 use Rattle.lists.specs.Pick.{test_held, test_failed}
-use Rattle.kinds.specs.Tasks.{is_free}
 use Rattle.tasks.proofs.choice.lowest_free.Goals as goal
 
 pub loop-place-init : goal.loop-place-init

@@ -4,7 +4,6 @@ use borrow.Author.Rules.{rules}
 use Rattle.lists.specs.Arrays.{mapped_length}
 use Rattle.lists.specs.Every.{rest_here, rest_later, rest_none}
 use Rattle.kinds.specs.Tasks.{no_task}
-use Rattle.rules.specs.Family.{is_subtask_of}
 use Rattle.tasks.proofs.direct.has_subtasks.Goals as goal
 
 pub loop-i-init : goal.loop-i-init

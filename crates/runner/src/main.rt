@@ -1,18 +1,13 @@
-// The script on standard input is answered on standard output, to its end. A program has no exit status of its own:
-// given an argument it tells on descriptor 3 whether all went well, by a 1 or a 0.
+// The script on standard input is answered on standard output, to its end. It ends with status 0 where all went well,
+// and else with 1.
 #![tactic(auto)]
 
-const TOLD: i32 = 3;
+use std::process::ExitCode;
 
-fn main() {
-    let done = jobs::run();
-    // the first is the program's name
-    if os::arg_count() < 2 {
-        return;
-    }
-    if done {
-        io::write_all(TOLD, b"1");
+fn main(rt: HostRuntime) -> ExitCode {
+    if jobs::run(rt.stdin(), rt.stdout(), rt.stderr()) {
+        ExitCode::SUCCESS
     } else {
-        io::write_all(TOLD, b"0");
+        ExitCode::FAILURE
     }
 }

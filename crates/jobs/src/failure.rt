@@ -10,10 +10,12 @@ const LONGEST: usize = 256;
 const NUMBER: &str = " (os error ";
 
 // Whoever broke the pipe wants no more answers, so there is nothing to say.
+pub(crate) fn is_broken_pipe(e: Error) -> bool {
+    e.kind() == ErrorKind::BrokenPipe
+}
+
 pub(crate) fn unwritten(stderr: Stderr, e: Error) {
-    if e.kind() != ErrorKind::BrokenPipe {
-        fail(stderr, "run: the answers cannot be written", e);
-    }
+    fail(stderr, "run: the answers cannot be written", e);
 }
 
 pub(crate) fn unread(stderr: Stderr, e: Error) {

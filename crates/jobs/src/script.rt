@@ -9,6 +9,17 @@ use crate::{input, listing, poking, saying, text, turn};
 use services::Tables;
 use std::io::{Stderr, Stdin, Stdout};
 
+// How a run ended.
+#[derive(Clone, Copy)]
+pub enum Ending {
+    // The end of the input was seen, and every answer was written.
+    Whole,
+    // A read or a write failed, and standard error has been told why.
+    CutOff,
+    // Nobody reads the answers any more.
+    Unwanted,
+}
+
 // Before the first `fresh` the tables are those of a step over with code 0, which a fresh start with dispatching above
 // limit gives back.
 fn start() -> Tables {
@@ -16,9 +27,20 @@ fn start() -> Tables {
     a.tables
 }
 
+// What the last write left says how the answers went.
+fn ending(whole: bool, left: usize) -> Ending {
+    if left == text::UNWANTED {
+        return Ending::Unwanted;
+    }
+    if whole && left == 0 {
+        return Ending::Whole;
+    }
+    Ending::CutOff
+}
+
 // Answers whether the end of the input was seen and every answer written. That is for the system to say, so nothing is
-// promised of it. Where it was not, standard error has been told why, but for a broken pipe.
-pub fn run(stdin: Stdin, stdout: Stdout, stderr: Stderr) -> bool {
+// promised of it.
+pub fn run(stdin: Stdin, stdout: Stdout, stderr: Stderr) -> Ending {
     let script = Input { stdin, stderr };
     let mut block = [0u8; BLOCK];
     let mut out = Out {
@@ -60,5 +82,6 @@ pub fn run(stdin: Stdin, stdout: Stdout, stderr: Stderr) -> bool {
         }
         number += 1;
     }
-    s.over & !s.failed & (text::flush(&mut out, at) == 0)
+    let left = text::flush(&mut out, at);
+    ending(s.over & !s.failed, left)
 }

@@ -12,6 +12,9 @@ use std::io::{Print, Stderr, Stdout};
 
 const LOST: usize = BLOCK + 1;
 
+// It failed since nobody reads the answers any more.
+pub(crate) const UNWANTED: usize = BLOCK + 2;
+
 // The block, whom its bytes are written to, and whom it is told where they cannot be.
 #[derive(Drop)]
 pub(crate) struct Out {
@@ -31,6 +34,9 @@ pub(crate) fn flush(out: &mut Out, at: usize) -> usize
     match write_front(out.stdout, &out.bytes, at) {
         Ok(()) => 0,
         Err(e) => {
+            if failure::is_broken_pipe(e) {
+                return UNWANTED;
+            }
             failure::unwritten(out.stderr, e);
             LOST
         }

@@ -28,7 +28,7 @@ fn start() -> Tables {
 }
 
 // What the last write left says how the answers went.
-fn ending(whole: bool, left: usize) -> Ending {
+fn ended(whole: bool, left: usize) -> Ending {
     if left == text::UNWANTED {
         return Ending::Unwanted;
     }
@@ -83,5 +83,5 @@ pub fn run(stdin: Stdin, stdout: Stdout, stderr: Stderr) -> Ending {
         number += 1;
     }
     let left = text::flush(&mut out, at);
-    ending(s.over & !s.failed, left)
+    ended(s.over & !s.failed, left)
 }

@@ -1,10 +1,11 @@
 // What one sound test costs, beside one copy of the tables, and what GETMAIN's search costs without a sound test. The
 // word after the program's name says what is repeated by its first letter; each further letter is a factor of ten.
-// - c: copies; any other than those below: sound tests. `time target/bin/cost ssssss` against `.. cccccc` tells the
-//   multiple.
+// - c: copies; any other than those below: sound tests. `time crates/cost/out/cost ssssss` against `.. cccccc` tells
+//   the multiple.
 // - g: GETMAIN's body; l: its search alone; e: the search of every multiple of 8. Two words more tell by their first
 //   letters how many areas there are (1: one, 3: 32, any other: 127) and how they lie (p: packed, s: scattered,
-//   t: every page is taken, any other: the region is filled). `time target/bin/cost llllll m t` against `.. eee m t`.
+//   t: every page is taken, any other: the region is filled). `time crates/cost/out/cost llllll m t` against
+//   `.. eee m t`.
 #![tactic(auto)]
 
 mod every;

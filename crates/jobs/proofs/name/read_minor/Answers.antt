@@ -10,6 +10,6 @@ loop-i-init c = (omega arith, refl, omega arith)
 pub loop-i-preserved : goal.loop-i-preserved
 loop-i-preserved c =
     elim c.if-i-kept.branch [
-        then-i-kept w ↦ (omega arith, omega (arith, simp length-set at (ap length w.bytes-is)), omega arith)
-        | else-i-kept w ↦ (omega arith, omega (arith, ap length w.bytes-is), omega arith)
-      ]
+      | then-i-kept w ↦ (omega arith, omega (arith, simp length-set at (ap length w.bytes-is)), omega arith)
+      | else-i-kept w ↦ (omega arith, omega (arith, ap length w.bytes-is), omega arith)
+    ]

@@ -8,6 +8,6 @@ loop-i-init c = (omega arith, omega arith, search rules, omega arith)
 
 pub loop-i-preserved : goal.loop-i-preserved
 loop-i-preserved c = elim c.if-place-lt-PLACES.branch [
-        then-place-lt-PLACES w ↦ omega arith
-        | else-place-lt-PLACES w ↦ omega arith
-      ]
+  | then-place-lt-PLACES w ↦ omega arith
+  | else-place-lt-PLACES w ↦ omega arith
+]

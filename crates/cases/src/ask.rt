@@ -8,6 +8,7 @@ use kinds::{
     TaskNumber, Wanted,
 };
 use services::Tables;
+use std::io::Stdout;
 
 // The codes area of each request, and what each byte of it is before.
 pub(crate) const CODES: usize = 4;
@@ -15,16 +16,17 @@ pub(crate) const CODES: usize = 4;
 pub(crate) const UNWRITTEN: u8 = 0xee;
 
 // A fresh step whose first task has the priorities 200 and 150.
-pub(crate) fn fresh(text: &[u8]) -> Tables {
+pub(crate) fn fresh(out: Stdout, text: &[u8]) -> Tables {
     let start = Tables::fresh(200, 150);
     let reply = start.reply;
     let codes = [UNWRITTEN; CODES];
-    show::answer(text, reply, &codes);
+    show::answer(out, text, reply, &codes);
     start.tables
 }
 
 // The answer is told, and its tables come back for the next request.
 pub(crate) fn beside(
+    out: Stdout,
     text: &[u8],
     t: Tables,
     request: Request,
@@ -37,23 +39,35 @@ pub(crate) fn beside(
     let answer = t.serve(request, names, ecbs, &mut codes);
     let reply = answer.reply;
     let next = answer.tables;
-    show::answer(text, reply, &codes);
+    show::answer(out, text, reply, &codes);
     next
 }
 
 // A request that has no use for a list.
-pub(crate) fn plainly(text: &[u8], t: Tables, request: Request) -> Tables {
-    beside(text, t, request, no_names(), no_ecbs())
+pub(crate) fn plainly(out: Stdout, text: &[u8], t: Tables, request: Request) -> Tables {
+    beside(out, text, t, request, no_names(), no_ecbs())
 }
 
 // An ENQ or a DEQ.
-pub(crate) fn naming(text: &[u8], t: Tables, request: Request, names: NameList) -> Tables {
-    beside(text, t, request, names, no_ecbs())
+pub(crate) fn naming(
+    out: Stdout,
+    text: &[u8],
+    t: Tables,
+    request: Request,
+    names: NameList,
+) -> Tables {
+    beside(out, text, t, request, names, no_ecbs())
 }
 
 // A WAIT.
-pub(crate) fn waiting(text: &[u8], t: Tables, request: Request, ecbs: EcbList) -> Tables {
-    beside(text, t, request, no_names(), ecbs)
+pub(crate) fn waiting(
+    out: Stdout,
+    text: &[u8],
+    t: Tables,
+    request: Request,
+    ecbs: EcbList,
+) -> Tables {
+    beside(out, text, t, request, no_names(), ecbs)
 }
 
 fn no_names() -> NameList {

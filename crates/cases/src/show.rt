@@ -1,4 +1,5 @@
-// Lines that tell an answer or a part of the tables. Each begins with the text that it is given.
+// Lines that tell an answer or a part of the tables. Each begins with the text that it is given. Where one cannot be
+// written nothing more is said of it.
 ghost use Rattle.std.specs.Prelude.{◌≤◌};
 ghost use Rattle.kinds.specs.Limits.{most_entries};
 
@@ -8,69 +9,70 @@ use ecbs::EcbTable;
 use kinds::{Area, Reply, Slot, TaskNumber};
 use queue::Queue;
 use services::Tables;
+use std::io::{Print, Stdout};
 use storage::Storage;
 use tasks::TaskTable;
 
-fn number(n: u64) {
-    io::print_decimal(1, n);
+fn number(out: Stdout, n: u64) {
+    let _ = print!(out; "{n}");
 }
 
-fn words(text: &[u8]) {
-    io::write_all(1, text);
+fn words(out: Stdout, text: &[u8]) {
+    let _ = out.write_all(text);
 }
 
 // The number, what goes besides and, where a byte was written, the codes area.
-pub(crate) fn answer(text: &[u8], reply: Reply, codes: &[u8; CODES]) {
-    words(text);
-    words(b": ");
-    number(reply.number() as u64);
-    words(b" ");
-    number(reply.besides() as u64);
+pub(crate) fn answer(out: Stdout, text: &[u8], reply: Reply, codes: &[u8; CODES]) {
+    words(out, text);
+    words(out, b": ");
+    number(out, reply.number() as u64);
+    words(out, b" ");
+    number(out, reply.besides() as u64);
     let first = codes[0] != UNWRITTEN || codes[1] != UNWRITTEN;
     let last = codes[2] != UNWRITTEN || codes[3] != UNWRITTEN;
     if first || last {
-        codes_area(codes);
+        codes_area(out, codes);
     }
-    words(b"\n");
+    words(out, b"\n");
 }
 
-fn codes_area(codes: &[u8; CODES]) {
-    words(b" codes=");
-    byte(codes[0]);
-    byte(codes[1]);
-    byte(codes[2]);
-    byte(codes[3]);
+fn codes_area(out: Stdout, codes: &[u8; CODES]) {
+    words(out, b" codes=");
+    byte(out, codes[0]);
+    byte(out, codes[1]);
+    byte(out, codes[2]);
+    byte(out, codes[3]);
 }
 
-fn byte(b: u8) {
-    io::print_hex(1, b as u64, 2);
+fn byte(out: Stdout, b: u8) {
+    let _ = print!(out; "{b:02x}");
 }
 
 // The entries in their order.
-pub(crate) fn entries(text: &[u8], q: Queue) {
+pub(crate) fn entries(out: Stdout, text: &[u8], q: Queue) {
     let mut i: usize = 0;
     while i < Slot::PLACES {
         if i < q.count {
             let e = q.slots[i];
-            entry(text, e, barred(q, i, e));
+            entry(out, text, e, barred(q, i, e));
         }
         i += 1;
     }
 }
 
-fn entry(text: &[u8], e: Slot, waits: bool) {
-    words(text);
-    words(b": entry of task ");
-    number(e.task.0 as u64);
+fn entry(out: Stdout, text: &[u8], e: Slot, waits: bool) {
+    words(out, text);
+    words(out, b": entry of task ");
+    number(out, e.task.0 as u64);
     if e.exclusive {
-        words(b", exclusive");
+        words(out, b", exclusive");
     } else {
-        words(b", shared");
+        words(out, b", shared");
     }
     if waits {
-        words(b", waits\n");
+        words(out, b", waits\n");
     } else {
-        words(b", has control\n");
+        words(out, b", has control\n");
     }
 }
 
@@ -89,89 +91,90 @@ fn barred(q: Queue, n: usize, e: Slot) -> bool
     false
 }
 
-pub(crate) fn entry_count(text: &[u8], q: Queue) {
-    words(text);
-    words(b": entries: ");
-    number(q.count as u64);
-    words(b"\n");
+pub(crate) fn entry_count(out: Stdout, text: &[u8], q: Queue) {
+    words(out, text);
+    words(out, b": entries: ");
+    number(out, q.count as u64);
+    words(out, b"\n");
 }
 
 // The tasks that wait, for names or for posts.
-pub(crate) fn waiting(text: &[u8], f: TaskTable) {
-    words(text);
-    words(b": tasks in a wait:");
+pub(crate) fn waiting(out: Stdout, text: &[u8], f: TaskTable) {
+    words(out, text);
+    words(out, b": tasks in a wait:");
     let mut n = TaskNumber::LOWEST;
     while n <= TaskNumber::HIGHEST {
-        waiter(f, n);
+        waiter(out, f, n);
         n += 1;
     }
-    words(b"\n");
+    words(out, b"\n");
 }
 
-fn waiter(f: TaskTable, n: u8) {
+fn waiter(out: Stdout, f: TaskTable, n: u8) {
     let task = tasks::at(f, ask::task(n as u32));
     let condition = task.condition;
     if condition.waits() {
-        words(b" ");
-        number(n as u64);
+        words(out, b" ");
+        number(out, n as u64);
     }
 }
 
-pub(crate) fn priorities(text: &[u8], f: TaskTable, n: TaskNumber) {
+pub(crate) fn priorities(out: Stdout, text: &[u8], f: TaskTable, n: TaskNumber) {
     let task = tasks::at(f, n);
-    words(text);
-    words(b": limit ");
-    number(task.limit as u64);
-    words(b", dispatching ");
-    number(task.dispatching as u64);
-    words(b"\n");
+    words(out, text);
+    words(out, b": limit ");
+    number(out, task.limit as u64);
+    words(out, b", dispatching ");
+    number(out, task.dispatching as u64);
+    words(out, b"\n");
 }
 
 // The areas by rising address.
-pub(crate) fn areas(text: &[u8], s: Storage) {
+pub(crate) fn areas(out: Stdout, text: &[u8], s: Storage) {
     let mut i: usize = 0;
     while i < Area::PLACES {
         if i < s.count {
-            area(text, s.areas[i]);
+            area(out, text, s.areas[i]);
         }
         i += 1;
     }
 }
 
-fn area(text: &[u8], a: Area) {
-    words(text);
-    words(b": area at ");
-    number(a.start.0 as u64);
-    words(b", ");
-    number(a.size as u64);
-    words(b" bytes, subpool ");
-    number(a.subpool as u64);
-    words(b", owner ");
-    number(a.owner.0 as u64);
-    words(b"\n");
+fn area(out: Stdout, text: &[u8], a: Area) {
+    words(out, text);
+    words(out, b": area at ");
+    number(out, a.start.0 as u64);
+    words(out, b", ");
+    number(out, a.size as u64);
+    words(out, b" bytes, subpool ");
+    number(out, a.subpool as u64);
+    words(out, b", owner ");
+    number(out, a.owner.0 as u64);
+    words(out, b"\n");
 }
 
 // The words of the first three ECBs after ECB 0, as the book has them.
-pub(crate) fn ecbs(text: &[u8], e: EcbTable) {
-    words(text);
-    words(b": words of ECBs 1, 2, 3:");
-    word(e, 1);
-    word(e, 2);
-    word(e, 3);
-    words(b"\n");
+pub(crate) fn ecbs(out: Stdout, text: &[u8], e: EcbTable) {
+    words(out, text);
+    words(out, b": words of ECBs 1, 2, 3:");
+    word(out, e, 1);
+    word(out, e, 2);
+    word(out, e, 3);
+    words(out, b"\n");
 }
 
-fn word(e: EcbTable, n: u32) {
+fn word(out: Stdout, e: EcbTable, n: u32) {
     let x = ecbs::at(e, ask::ecb(n));
-    words(b" ");
-    io::print_hex(1, ecbs::word(x), 8);
+    words(out, b" ");
+    let bits = ecbs::word(x);
+    let _ = print!(out; "{bits:08x}");
 }
 
-pub(crate) fn step(text: &[u8], t: Tables) {
-    words(text);
-    words(b": step over ");
-    number(if t.all.over { 1 } else { 0 });
-    words(b", code ");
-    number(t.all.code as u64);
-    words(b"\n");
+pub(crate) fn step(out: Stdout, text: &[u8], t: Tables) {
+    words(out, text);
+    words(out, b": step over ");
+    number(out, if t.all.over { 1 } else { 0 });
+    words(out, b", code ");
+    number(out, t.all.code as u64);
+    words(out, b"\n");
 }

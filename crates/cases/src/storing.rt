@@ -2,8 +2,10 @@
 use crate::{ask, show};
 use kinds::{Address, Request};
 use services::Tables;
+use std::io::Stdout;
 
 pub(crate) fn getmain(
+    out: Stdout,
     text: &[u8],
     t: Tables,
     length: u32,
@@ -11,6 +13,7 @@ pub(crate) fn getmain(
     conditional: bool,
 ) -> Tables {
     ask::plainly(
+        out,
         text,
         t,
         Request::Getmain {
@@ -23,6 +26,7 @@ pub(crate) fn getmain(
 }
 
 pub(crate) fn freemain(
+    out: Stdout,
     text: &[u8],
     t: Tables,
     address: Address,
@@ -30,6 +34,7 @@ pub(crate) fn freemain(
     subpool: u8,
 ) -> Tables {
     ask::plainly(
+        out,
         text,
         t,
         Request::Freemain {
@@ -42,43 +47,45 @@ pub(crate) fn freemain(
 }
 
 // 7: four areas, each at the lowest address whose pages hold nobody else's.
-pub(crate) fn case_7() -> Tables {
-    let t = ask::fresh(b"7: fresh step, 200/150");
-    let a = getmain(b"7: 100 bytes of subpool 10", t, 100, 10, false);
-    let b = getmain(b"7: 400 bytes of subpool 10", a, 400, 10, false);
-    let c = getmain(b"7: 8 bytes of subpool 0", b, 8, 0, false);
-    let d = getmain(b"7: 4,000 bytes of subpool 10", c, 4000, 10, false);
-    show::areas(b"7", d.all.storage);
+pub(crate) fn case_7(out: Stdout) -> Tables {
+    let t = ask::fresh(out, b"7: fresh step, 200/150");
+    let a = getmain(out, b"7: 100 bytes of subpool 10", t, 100, 10, false);
+    let b = getmain(out, b"7: 400 bytes of subpool 10", a, 400, 10, false);
+    let c = getmain(out, b"7: 8 bytes of subpool 0", b, 8, 0, false);
+    let d = getmain(out, b"7: 4,000 bytes of subpool 10", c, 4000, 10, false);
+    show::areas(out, b"7", d.all.storage);
     d
 }
 
 // 8: the page of the area that is freed still holds another of its subpool.
-pub(crate) fn case_8(t: Tables) {
+pub(crate) fn case_8(out: Stdout, t: Tables) {
     let freed = freemain(
+        out,
         b"8: 100 bytes at 0, subpool 10, are freed",
         t,
         ask::address(0),
         100,
         10,
     );
-    let r = getmain(b"8: 8 bytes of subpool 5", freed, 8, 5, false);
-    show::areas(b"8", r.all.storage);
+    let r = getmain(out, b"8: 8 bytes of subpool 5", freed, 8, 5, false);
+    show::areas(out, b"8", r.all.storage);
 }
 
 // 9: the whole region, and then no room.
-pub(crate) fn case_9() {
-    let t = ask::fresh(b"9: fresh step, 200/150");
+pub(crate) fn case_9(out: Stdout) {
+    let t = ask::fresh(out, b"9: fresh step, 200/150");
     let all = getmain(
+        out,
         b"9: 131,072 bytes of subpool 3",
         t,
         Address::REGION,
         3,
         false,
     );
-    let four = getmain(b"9: 8 bytes, conditional", all, 8, 3, true);
-    show::areas(b"9", four.all.storage);
-    show::step(b"9", four);
-    let over = getmain(b"9: 8 bytes, unconditional", four, 8, 3, false);
-    show::areas(b"9", over.all.storage);
-    show::step(b"9", over);
+    let four = getmain(out, b"9: 8 bytes, conditional", all, 8, 3, true);
+    show::areas(out, b"9", four.all.storage);
+    show::step(out, b"9", four);
+    let over = getmain(out, b"9: 8 bytes, unconditional", four, 8, 3, false);
+    show::areas(out, b"9", over.all.storage);
+    show::step(out, b"9", over);
 }

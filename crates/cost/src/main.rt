@@ -1,10 +1,11 @@
 // What one sound test costs, beside one copy of the tables, and what GETMAIN's search costs without a sound test. The
 // word after the program's name says what is repeated by its first letter; each further letter is a factor of ten.
-// - c: copies; any other than those below: sound tests. `time target/bin/cost ssssss` against `.. cccccc` tells the
-//   multiple.
+// - c: copies; any other than those below: sound tests. `time crates/cost/out/cost ssssss` against `.. cccccc` tells
+//   the multiple.
 // - g: GETMAIN's body; l: its search alone; e: the search of every multiple of 8. Two words more tell by their first
 //   letters how many areas there are (1: one, 3: 32, any other: 127) and how they lie (p: packed, s: scattered,
-//   t: every page is taken, any other: the region is filled). `time target/bin/cost llllll m t` against `.. eee m t`.
+//   t: every page is taken, any other: the region is filled). `time crates/cost/out/cost llllll m t` against
+//   `.. eee m t`.
 #![tactic(auto)]
 
 mod every;
@@ -15,6 +16,7 @@ mod searches;
 
 use crate::searches::Search;
 use kinds::MaybeAddress;
+use std::rt::Env;
 
 // The longest word that is read, in letters.
 const LETTERS: usize = 8;
@@ -34,51 +36,50 @@ fn rounds(letters: usize) -> u32 {
 }
 
 // The first letter of a word, or 0 where there is none.
-fn letter(word: usize) -> u8 {
+fn letter(rt: HostRuntime, word: usize) -> u8 {
     let mut text = [0u8; LETTERS];
-    os::arg(word, &mut text);
+    let _ = rt.arg(word, &mut text);
     text[0]
 }
 
-fn say(hits: u32, all: u32) {
-    io::print_decimal(1, hits as u64);
-    io::write_all(1, b" of ");
-    io::print_decimal(1, all as u64);
+fn say(rt: HostRuntime, hits: u32, all: u32) {
+    let _ = print!(rt; "{hits} of {all}");
 }
 
-fn say_place(place: MaybeAddress) {
+fn say_place(rt: HostRuntime, place: MaybeAddress) {
     match place {
         MaybeAddress::At(a) => {
-            io::write_all(1, b" at ");
-            io::print_decimal(1, a.0 as u64);
+            let at = a.0;
+            let _ = print!(rt; " at {at}");
         }
         MaybeAddress::Nowhere => {
-            io::write_all(1, b" nowhere");
+            let _ = print!(rt; " nowhere");
         }
     }
 }
 
-fn search(what: Search, all: u32) {
-    let n = layouts::number_of(letter(2));
-    let layout = layouts::layout_of(letter(3), n);
+fn search(rt: HostRuntime, what: Search, all: u32) {
+    let n = layouts::number_of(letter(rt, 2));
+    let layout = layouts::layout_of(letter(rt, 3), n);
     let s = layouts::laid(n, layout);
     let t = tables::put_storage(tables::over_with(0), s);
     let answers = searches::repeated(what, all, t, layout.bytes);
-    say(answers.found, all);
+    say(rt, answers.found, all);
     let last = answers.last;
-    say_place(last);
+    say_place(rt, last);
 }
 
-fn main() {
+fn main(rt: HostRuntime) {
     let mut word = [0u8; LETTERS];
-    let n = os::arg(1, &mut word);
+    // a word that is longer counts as one of no letters
+    let n = rt.arg(1, &mut word).unwrap_or(0);
     let all = rounds(n);
     match word[0] {
-        b'c' => say(full::copies(all), all),
-        b'g' => search(Search::Body, all),
-        b'l' => search(Search::Lowest, all),
-        b'e' => search(Search::Every, all),
-        _ => say(full::tests(all), all),
+        b'c' => say(rt, full::copies(all), all),
+        b'g' => search(rt, Search::Body, all),
+        b'l' => search(rt, Search::Lowest, all),
+        b'e' => search(rt, Search::Every, all),
+        _ => say(rt, full::tests(all), all),
     }
-    io::write_all(1, b"\n");
+    let _ = println!(rt);
 }

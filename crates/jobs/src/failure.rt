@@ -1,13 +1,35 @@
-// What is said on standard error where the system does not read or write. errno is that of the last call, so it is said
-// right after the one that failed.
+// What is said on standard error where the system does not read or write.
+use arrayvec::ArrayString;
+use std::fmt::Write;
+use std::io::{Error, ErrorKind, Print, Stderr};
+
+// No text of an error is longer, in bytes.
+const LONGEST: usize = 256;
+
+// What stands between that text and the error's number, which is not said.
+const NUMBER: &str = " (os error ";
 
 // Whoever broke the pipe wants no more answers, so there is nothing to say.
-pub(crate) fn unwritten() {
-    if os::errno() != libc::EPIPE {
-        os::fail(b"run: the answers cannot be written");
-    }
+pub(crate) fn is_broken_pipe(e: Error) -> bool {
+    e.kind() == ErrorKind::BrokenPipe
 }
 
-pub(crate) fn unread() {
-    os::fail(b"run: the script cannot be read");
+pub(crate) fn unwritten(stderr: Stderr, e: Error) {
+    fail(stderr, "run: the answers cannot be written", e);
+}
+
+pub(crate) fn unread(stderr: Stderr, e: Error) {
+    fail(stderr, "run: the script cannot be read", e);
+}
+
+// What failed, a colon and the error's text. Where standard error too does not take it, nobody is told.
+fn fail(stderr: Stderr, what: &str, e: Error) {
+    let mut all = ArrayString::<LONGEST>::new();
+    let _ = write!(all, "{e}");
+    let text = all.as_str();
+    let why = match text.split_once(NUMBER) {
+        Some((before, _)) => before,
+        None => text,
+    };
+    let _ = stderr.println(format_args!("{what}: {why}"));
 }

@@ -5,6 +5,14 @@ ghost use Rattle.jobs.specs.Spans.{Within};
 
 use crate::failure;
 use crate::sizes::LONGEST_LINE;
+use std::io::{Read, Stderr, Stdin};
+
+// What is read, and whom it is told where it cannot be.
+#[derive(Clone, Copy)]
+pub(crate) struct Input {
+    pub(crate) stdin: Stdin,
+    pub(crate) stderr: Stderr,
+}
 
 // The block has `end` bytes of the input. The line is from..to, and what comes after it starts at `next`. The input is
 // over where it has no line any more, or where a read failed: the line is then empty.
@@ -40,29 +48,31 @@ fn line_end(block: &[u8], from: usize, end: usize) -> usize
     end
 }
 
-fn read_some(room: &mut [u8]) -> Got
+fn read_some(input: Input, room: &mut [u8]) -> Got
     ensures { result.count ≤ length room.old }
 {
-    let got = libc::read(0, room);
-    if got < 0 {
-        failure::unread();
-        return Got {
-            count: 0,
-            failed: true,
-        };
-    }
-    Got {
-        count: io::count(got, room),
-        failed: false,
+    let mut stdin = input.stdin;
+    match stdin.read(room) {
+        Ok(count) => Got {
+            count,
+            failed: false,
+        },
+        Err(e) => {
+            failure::unread(input.stderr, e);
+            Got {
+                count: 0,
+                failed: true,
+            }
+        }
     }
 }
 
 // One read into the block from `end` on.
-fn filled(block: &mut [u8], end: usize) -> Got
+fn filled(input: Input, block: &mut [u8], end: usize) -> Got
     requires { end ≤ length block.old }
     ensures { end + result.count ≤ length block.old }
 {
-    read_some(&mut block[end..])
+    read_some(input, &mut block[end..])
 }
 
 // The bytes from `from` on go to the front.
@@ -80,7 +90,7 @@ fn to_front(block: &mut [u8], from: usize, end: usize)
 }
 
 // The next line of a block whose bytes from..end were not yet taken.
-pub(crate) fn line(block: &mut [u8], from: usize, end: usize) -> Span
+pub(crate) fn line(input: Input, block: &mut [u8], from: usize, end: usize) -> Span
     requires { (from ≤ end) × (end ≤ block_size) × (length block.old ≡ block_size) }
     ensures { Within result }
 {
@@ -96,20 +106,20 @@ pub(crate) fn line(block: &mut [u8], from: usize, end: usize) -> Span
         };
     }
     if LONGEST_LINE < end - from {
-        return rest_of_long(block);
+        return rest_of_long(input, block);
     }
     to_front(block, from, end);
-    longer(block, end - from)
+    longer(input, block, end - from)
 }
 
 // The line whose first bytes are all that the block has; more is read until it ends or is too long.
-fn longer(block: &mut [u8], kept: usize) -> Span
+fn longer(input: Input, block: &mut [u8], kept: usize) -> Span
     requires { (kept ≤ longest_line) × (length block.old ≡ block_size) }
     ensures { Within result }
 {
     let mut end = kept;
     while end <= LONGEST_LINE {
-        let got = filled(block, end);
+        let got = filled(input, block, end);
         if got.failed {
             return no_line();
         }
@@ -130,7 +140,7 @@ fn longer(block: &mut [u8], kept: usize) -> Span
             };
         }
     }
-    rest_of_long(block)
+    rest_of_long(input, block)
 }
 
 // The last line, with no LF, or none.
@@ -163,13 +173,13 @@ fn no_line() -> Span
 }
 
 // The rest of a line that is too long is passed over.
-fn rest_of_long(block: &mut [u8]) -> Span
+fn rest_of_long(input: Input, block: &mut [u8]) -> Span
     requires { length block.old ≡ block_size }
     ensures { Within result }
 {
     let mut turns = u64::MAX;
     while 0 < turns {
-        let got = read_some(block);
+        let got = read_some(input, block);
         if got.failed {
             return no_line();
         }

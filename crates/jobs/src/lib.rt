@@ -32,4 +32,4 @@ mod text;
 mod turn;
 mod word;
 
-pub use script::run;
+pub use script::{Ending, run};

@@ -6,12 +6,11 @@ use crate::area_row::RawArea;
 use crate::ecb_row::RawEcb;
 use crate::entry_row::RawEntry;
 use crate::raw::used;
-use crate::sizes::BLOCK;
 use crate::task_row::RawTask;
-use crate::text::{put, put_byte, put_bytes_hex, put_number};
+use crate::text::{Out, put, put_byte, put_bytes_hex, put_number};
 
 // A space and a number.
-pub(crate) fn put_field(out: &mut [u8; BLOCK], at: usize, n: u32) -> usize
+pub(crate) fn put_field(out: &mut Out, at: usize, n: u32) -> usize
     ensures { Kept at result }
 {
     let k = put_byte(out, at, b' ');
@@ -19,14 +18,14 @@ pub(crate) fn put_field(out: &mut [u8; BLOCK], at: usize, n: u32) -> usize
 }
 
 // A space and bytes in hex.
-pub(crate) fn put_hex_field(out: &mut [u8; BLOCK], at: usize, bytes: &[u8]) -> usize
+pub(crate) fn put_hex_field(out: &mut Out, at: usize, bytes: &[u8]) -> usize
     ensures { Kept at result }
 {
     let k = put_byte(out, at, b' ');
     put_bytes_hex(out, k, bytes)
 }
 
-pub(crate) fn put_step(out: &mut [u8; BLOCK], at: usize, over: u32, code: u32) -> usize
+pub(crate) fn put_step(out: &mut Out, at: usize, over: u32, code: u32) -> usize
     ensures { Kept at result }
 {
     let k = put(out, at, b"step");
@@ -35,7 +34,7 @@ pub(crate) fn put_step(out: &mut [u8; BLOCK], at: usize, over: u32, code: u32) -
     put_byte(out, k, b'\n')
 }
 
-pub(crate) fn put_task(out: &mut [u8; BLOCK], at: usize, n: u32, r: RawTask) -> usize
+pub(crate) fn put_task(out: &mut Out, at: usize, n: u32, r: RawTask) -> usize
     ensures { Kept at result }
 {
     if r.is_zero() {
@@ -54,7 +53,7 @@ pub(crate) fn put_task(out: &mut [u8; BLOCK], at: usize, n: u32, r: RawTask) -> 
     put_byte(out, k, b'\n')
 }
 
-pub(crate) fn put_entry(out: &mut [u8; BLOCK], at: usize, n: u32, r: RawEntry) -> usize
+pub(crate) fn put_entry(out: &mut Out, at: usize, n: u32, r: RawEntry) -> usize
     ensures { Kept at result }
 {
     if r.is_zero() {
@@ -69,7 +68,7 @@ pub(crate) fn put_entry(out: &mut [u8; BLOCK], at: usize, n: u32, r: RawEntry) -
 }
 
 // The name area up to its last byte that is not zero.
-pub(crate) fn put_names(out: &mut [u8; BLOCK], at: usize, names: &[u8]) -> usize
+pub(crate) fn put_names(out: &mut Out, at: usize, names: &[u8]) -> usize
     ensures { Kept at result }
 {
     let n = used(names);
@@ -81,7 +80,7 @@ pub(crate) fn put_names(out: &mut [u8; BLOCK], at: usize, names: &[u8]) -> usize
     put_byte(out, k, b'\n')
 }
 
-pub(crate) fn put_ecb(out: &mut [u8; BLOCK], at: usize, n: u32, r: RawEcb) -> usize
+pub(crate) fn put_ecb(out: &mut Out, at: usize, n: u32, r: RawEcb) -> usize
     ensures { Kept at result }
 {
     if r.is_zero() {
@@ -96,7 +95,7 @@ pub(crate) fn put_ecb(out: &mut [u8; BLOCK], at: usize, n: u32, r: RawEcb) -> us
     put_byte(out, k, b'\n')
 }
 
-pub(crate) fn put_area(out: &mut [u8; BLOCK], at: usize, n: u32, r: RawArea) -> usize
+pub(crate) fn put_area(out: &mut Out, at: usize, n: u32, r: RawArea) -> usize
     ensures { Kept at result }
 {
     if r.is_zero() {

@@ -8,9 +8,9 @@ use crate::ecb_row::RawEcb;
 use crate::entry_row::RawEntry;
 use crate::lines::{put_area, put_ecb, put_entry, put_field, put_names, put_step, put_task};
 use crate::raw::flag;
-use crate::sizes::{BLOCK, MOST_CODES};
+use crate::sizes::MOST_CODES;
 use crate::task_row::RawTask;
-use crate::text::{put, put_byte, put_bytes_hex, put_number};
+use crate::text::{Out, put, put_byte, put_bytes_hex, put_number};
 use ecbs::EcbTable;
 use kinds::{Area, EcbNumber, Reply, Slot, TaskNumber};
 use queue::Queue;
@@ -22,7 +22,7 @@ use tasks::TaskTable;
 pub(crate) const UNWRITTEN: u8 = 0xee;
 
 // `NUMBER BESIDES`.
-pub(crate) fn answer(reply: Reply, out: &mut [u8; BLOCK], at: usize) -> usize
+pub(crate) fn answer(reply: Reply, out: &mut Out, at: usize) -> usize
     ensures { Kept at result }
 {
     let k = put_reply(reply, out, at);
@@ -34,7 +34,7 @@ pub(crate) fn answer_with(
     reply: Reply,
     codes: [u8; MOST_CODES],
     length: usize,
-    out: &mut [u8; BLOCK],
+    out: &mut Out,
     at: usize,
 ) -> usize
     requires { length ≤ most_codes }
@@ -45,14 +45,14 @@ pub(crate) fn answer_with(
     put_byte(out, k, b'\n')
 }
 
-fn put_reply(reply: Reply, out: &mut [u8; BLOCK], at: usize) -> usize
+fn put_reply(reply: Reply, out: &mut Out, at: usize) -> usize
     ensures { Kept at result }
 {
     let k = put_number(out, at, reply.number() as u32);
     put_field(out, k, reply.besides())
 }
 
-fn put_codes(out: &mut [u8; BLOCK], at: usize, codes: &[u8]) -> usize
+fn put_codes(out: &mut Out, at: usize, codes: &[u8]) -> usize
     ensures { Kept at result }
 {
     if !any_written(codes) {
@@ -73,7 +73,7 @@ fn any_written(codes: &[u8]) -> bool {
     false
 }
 
-pub(crate) fn dump(t: Tables, out: &mut [u8; BLOCK], at: usize) -> usize
+pub(crate) fn dump(t: Tables, out: &mut Out, at: usize) -> usize
     ensures { Kept at result }
 {
     let a = t.all;
@@ -86,7 +86,7 @@ pub(crate) fn dump(t: Tables, out: &mut [u8; BLOCK], at: usize) -> usize
     put(out, k, b".\n")
 }
 
-fn put_tasks(f: TaskTable, out: &mut [u8; BLOCK], at: usize) -> usize
+fn put_tasks(f: TaskTable, out: &mut Out, at: usize) -> usize
     ensures { Kept at result }
 {
     let mut k = at;
@@ -99,7 +99,7 @@ fn put_tasks(f: TaskTable, out: &mut [u8; BLOCK], at: usize) -> usize
     k
 }
 
-fn put_entries(q: Queue, out: &mut [u8; BLOCK], at: usize) -> usize
+fn put_entries(q: Queue, out: &mut Out, at: usize) -> usize
     ensures { Kept at result }
 {
     let mut k = at;
@@ -112,7 +112,7 @@ fn put_entries(q: Queue, out: &mut [u8; BLOCK], at: usize) -> usize
     k
 }
 
-fn put_ecbs(e: EcbTable, out: &mut [u8; BLOCK], at: usize) -> usize
+fn put_ecbs(e: EcbTable, out: &mut Out, at: usize) -> usize
     ensures { Kept at result }
 {
     let mut k = at;
@@ -125,7 +125,7 @@ fn put_ecbs(e: EcbTable, out: &mut [u8; BLOCK], at: usize) -> usize
     k
 }
 
-fn put_areas(s: Storage, out: &mut [u8; BLOCK], at: usize) -> usize
+fn put_areas(s: Storage, out: &mut Out, at: usize) -> usize
     ensures { Kept at result }
 {
     let mut k = at;

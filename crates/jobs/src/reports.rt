@@ -6,8 +6,8 @@ ghost use Rattle.jobs.specs.Places.{Kept};
 
 use crate::lines::{put_field, put_hex_field};
 use crate::listing::UNWRITTEN;
-use crate::sizes::{BLOCK, MOST_ROOM};
-use crate::text::{put, put_byte, put_bytes_hex};
+use crate::sizes::MOST_ROOM;
+use crate::text::{Out, put, put_byte, put_bytes_hex};
 use crate::{listing, number};
 use kinds::{Name, NameOffset, Slot};
 use queue::Queue;
@@ -25,7 +25,7 @@ const STUCK_LIST: usize = STUCK_ITEM * MOST_ROOM;
 const QUEUES_LIST: usize = QUEUE_ITEM * MOST_ROOM;
 
 // A space and the name that lies there: eight bytes, a length byte, and as many as that says.
-fn put_name(names: &[u8], name: NameOffset, out: &mut [u8; BLOCK], at: usize) -> usize
+fn put_name(names: &[u8], name: NameOffset, out: &mut Out, at: usize) -> usize
     ensures { Kept at result }
 {
     let start = name.0 as usize;
@@ -45,7 +45,7 @@ fn put_name(names: &[u8], name: NameOffset, out: &mut [u8; BLOCK], at: usize) ->
 }
 
 // Who is stuck.
-pub(crate) fn stuck(t: Tables, room: u8, out: &mut [u8; BLOCK], at: usize) -> usize
+pub(crate) fn stuck(t: Tables, room: u8, out: &mut Out, at: usize) -> usize
     ensures { Kept at result }
 {
     let length = STUCK_ITEM * room as usize;
@@ -63,7 +63,7 @@ fn put_stuck(
     names: &[u8],
     list: [u8; STUCK_LIST],
     count: u8,
-    out: &mut [u8; BLOCK],
+    out: &mut Out,
     at: usize,
 ) -> usize
     ensures { Kept at result }
@@ -88,7 +88,7 @@ fn put_stuck_item(
     task: u8,
     name: NameOffset,
     partner: u8,
-    out: &mut [u8; BLOCK],
+    out: &mut Out,
     at: usize,
 ) -> usize
     ensures { Kept at result }
@@ -101,7 +101,7 @@ fn put_stuck_item(
 }
 
 // Who stands in which queue.
-pub(crate) fn queues(t: Tables, room: u8, out: &mut [u8; BLOCK], at: usize) -> usize
+pub(crate) fn queues(t: Tables, room: u8, out: &mut Out, at: usize) -> usize
     ensures { Kept at result }
 {
     let length = QUEUE_ITEM * room as usize;
@@ -118,7 +118,7 @@ fn put_queues(
     names: &[u8],
     list: [u8; QUEUES_LIST],
     count: u8,
-    out: &mut [u8; BLOCK],
+    out: &mut Out,
     at: usize,
 ) -> usize
     ensures { Kept at result }
@@ -137,7 +137,7 @@ fn put_queues(
 }
 
 // `queue NAME TASK own`, or `wait`.
-fn put_queue_item(names: &[u8], x: Slot, owner: u8, out: &mut [u8; BLOCK], at: usize) -> usize
+fn put_queue_item(names: &[u8], x: Slot, owner: u8, out: &mut Out, at: usize) -> usize
     ensures { Kept at result }
 {
     let k = put(out, at, b"queue");

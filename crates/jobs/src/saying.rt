@@ -1,8 +1,9 @@
 // What is written for a line.
 ghost use Rattle.jobs.specs.Places.{Kept};
 
-use crate::sizes::BLOCK;
 use crate::text;
+use crate::text::Out;
+use itoa::Buffer;
 
 #[derive(Clone, Copy)]
 pub(crate) enum Said {
@@ -13,7 +14,7 @@ pub(crate) enum Said {
 }
 
 // For line `number` of the script, behind what is in the block.
-pub(crate) fn say(said: Said, number: u64, out: &mut [u8; BLOCK], at: usize) -> usize
+pub(crate) fn say(said: Said, number: u64, out: &mut Out, at: usize) -> usize
     ensures { Kept at result }
 {
     match said {
@@ -24,12 +25,11 @@ pub(crate) fn say(said: Said, number: u64, out: &mut [u8; BLOCK], at: usize) -> 
     }
 }
 
-fn mark(sign: &[u8], number: u64, out: &mut [u8; BLOCK], at: usize) -> usize
+fn mark(sign: &[u8], number: u64, out: &mut Out, at: usize) -> usize
     ensures { Kept at result }
 {
-    let mut digits = [0u8; 20];
-    let n = io::decimal(number, &mut digits);
+    let mut digits = Buffer::new();
     let a = text::put(out, at, sign);
-    let b = text::put(out, a, &digits[..n]);
+    let b = text::put(out, a, digits.format(number).as_bytes());
     text::put(out, b, b"\n")
 }

@@ -1,10 +1,24 @@
 // The script on standard input, from its first line to its last.
+use crate::input::Input;
 use crate::listing::UNWRITTEN;
 use crate::poking::Left;
 use crate::sizes::{BLOCK, HIGHEST_LINE, MOST_CODES};
+use crate::text::Out;
 use crate::turn::What;
 use crate::{input, listing, poking, saying, text, turn};
 use services::Tables;
+use std::io::{Stderr, Stdin, Stdout};
+
+// How a run ended.
+#[derive(Clone, Copy)]
+pub enum Ending {
+    // The end of the input was seen, and every answer was written.
+    Whole,
+    // A read or a write failed, and standard error has been told why.
+    CutOff,
+    // Nobody reads the answers any more.
+    Unwanted,
+}
 
 // Before the first `fresh` the tables are those of a step over with code 0, which a fresh start with dispatching above
 // limit gives back.
@@ -13,17 +27,33 @@ fn start() -> Tables {
     a.tables
 }
 
+// What the last write left says how the answers went.
+fn ended(whole: bool, left: usize) -> Ending {
+    if left == text::UNWANTED {
+        return Ending::Unwanted;
+    }
+    if whole && left == 0 {
+        return Ending::Whole;
+    }
+    Ending::CutOff
+}
+
 // Answers whether the end of the input was seen and every answer written. That is for the system to say, so nothing is
 // promised of it.
-pub fn run() -> bool {
+pub fn run(stdin: Stdin, stdout: Stdout, stderr: Stderr) -> Ending {
+    let script = Input { stdin, stderr };
     let mut block = [0u8; BLOCK];
-    let mut out = [0u8; BLOCK];
+    let mut out = Out {
+        stdout,
+        stderr,
+        bytes: [0u8; BLOCK],
+    };
     let mut tables = start();
     let mut s = input::passed(0, 0);
     let mut at: usize = 0;
     let mut number: u64 = 1;
     while number <= HIGHEST_LINE && at <= BLOCK && !s.over {
-        s = input::line(&mut block, s.next, s.end);
+        s = input::line(script, &mut block, s.next, s.end);
         let asked = turn::read(&block, s.from, s.to);
         let what = asked.what;
         match what {
@@ -52,5 +82,6 @@ pub fn run() -> bool {
         }
         number += 1;
     }
-    s.over & !s.failed & (text::flush(&mut out, at) == 0)
+    let left = text::flush(&mut out, at);
+    ended(s.over & !s.failed, left)
 }

@@ -1,7 +1,7 @@
 // What a line shows of the tables: all of them, or a report. They stay as they are.
 ghost use Rattle.jobs.specs.Places.{Kept};
 
-use crate::sizes::BLOCK;
+use crate::text::Out;
 use crate::{listing, reports};
 use services::Tables;
 
@@ -19,7 +19,7 @@ pub(crate) enum Shows {
 }
 
 impl Shows {
-    pub(crate) fn put(self, t: Tables, out: &mut [u8; BLOCK], at: usize) -> usize
+    pub(crate) fn put(self, t: Tables, out: &mut Out, at: usize) -> usize
         ensures { Kept at result }
     {
         match self {
@@ -30,7 +30,7 @@ impl Shows {
 }
 
 impl Report {
-    fn put(self, t: Tables, room: u8, out: &mut [u8; BLOCK], at: usize) -> usize
+    fn put(self, t: Tables, room: u8, out: &mut Out, at: usize) -> usize
         ensures { Kept at result }
     {
         match self {

@@ -7,48 +7,66 @@ ghost use Rattle.jobs.specs.Sizes.{block_size};
 
 use crate::sizes::{BLOCK, MOST_DIGITS};
 use crate::{failure, hex};
+use std::io;
+use std::io::{Print, Stderr, Stdout};
 
 const LOST: usize = BLOCK + 1;
 
+// It failed since nobody reads the answers any more.
+pub(crate) const UNWANTED: usize = BLOCK + 2;
+
+// The block, whom its bytes are written to, and whom it is told where they cannot be.
+#[derive(Drop)]
+pub(crate) struct Out {
+    pub(crate) stdout: Stdout,
+    pub(crate) stderr: Stderr,
+    pub(crate) bytes: [u8; BLOCK],
+}
+
 // Writes the block's bytes, and the block is empty.
-pub(crate) fn flush(out: &mut [u8; BLOCK], at: usize) -> usize
+pub(crate) fn flush(out: &mut Out, at: usize) -> usize
     ensures emptied { Emptied result }
     ensures kept { Kept at result }
 {
     if BLOCK < at {
         return at;
     }
-    if write_front(out, at) {
-        return 0;
+    match write_front(out.stdout, &out.bytes, at) {
+        Ok(()) => 0,
+        Err(e) => {
+            if failure::is_broken_pipe(e) {
+                return UNWANTED;
+            }
+            failure::unwritten(out.stderr, e);
+            LOST
+        }
     }
-    failure::unwritten();
-    LOST
 }
 
-fn write_front(bytes: &mut [u8], n: usize) -> bool {
+fn write_front(stdout: Stdout, bytes: &[u8], n: usize) -> io::Result<()> {
     if n < bytes.len() {
-        return io::write_all(1, &bytes[..n]);
+        return stdout.write_all(&bytes[..n]);
     }
-    io::write_all(1, bytes)
+    stdout.write_all(bytes)
 }
 
-pub(crate) fn put_byte(out: &mut [u8; BLOCK], at: usize, byte: u8) -> usize
+pub(crate) fn put_byte(out: &mut Out, at: usize, byte: u8) -> usize
     ensures value { at < block_size → result ≡ at + 1 }
     ensures kept { Kept at result }
 {
     if at < BLOCK {
-        out[at] = byte;
+        out.bytes[at] = byte;
         return at + 1;
     }
     let start = flush(out, at);
     if start < BLOCK {
-        out[start] = byte;
+        out.bytes[start] = byte;
         return start + 1;
     }
     start
 }
 
-pub(crate) fn put(out: &mut [u8; BLOCK], at: usize, bytes: &[u8]) -> usize
+pub(crate) fn put(out: &mut Out, at: usize, bytes: &[u8]) -> usize
     ensures { Kept at result }
 {
     let mut k = at;
@@ -61,7 +79,7 @@ pub(crate) fn put(out: &mut [u8; BLOCK], at: usize, bytes: &[u8]) -> usize
 }
 
 // Decimal digits, from the last one on.
-pub(crate) fn put_number(out: &mut [u8; BLOCK], at: usize, n: u32) -> usize
+pub(crate) fn put_number(out: &mut Out, at: usize, n: u32) -> usize
     ensures { Kept at result }
 {
     if n < 10 {
@@ -86,14 +104,14 @@ fn hex_digit(n: u8) -> u8 {
 }
 
 // Two lower case digits.
-pub(crate) fn put_hex(out: &mut [u8; BLOCK], at: usize, byte: u8) -> usize
+pub(crate) fn put_hex(out: &mut Out, at: usize, byte: u8) -> usize
     ensures { Kept at result }
 {
     let k = put_byte(out, at, hex_digit(byte / hex::BASE));
     put_byte(out, k, hex_digit(byte % hex::BASE))
 }
 
-pub(crate) fn put_bytes_hex(out: &mut [u8; BLOCK], at: usize, bytes: &[u8]) -> usize
+pub(crate) fn put_bytes_hex(out: &mut Out, at: usize, bytes: &[u8]) -> usize
     ensures { Kept at result }
 {
     let mut k = at;

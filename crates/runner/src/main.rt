@@ -1,18 +1,16 @@
-// The script on standard input is answered on standard output, to its end. A program has no exit status of its own:
-// given an argument it tells on descriptor 3 whether all went well, by a 1 or a 0.
+// The script on standard input is answered on standard output, to its end. The exit status says how that went.
 #![tactic(auto)]
 
-const TOLD: i32 = 3;
+use jobs::Ending;
+use std::process::ExitCode;
 
-fn main() {
-    let done = jobs::run();
-    // the first is the program's name
-    if os::arg_count() < 2 {
-        return;
-    }
-    if done {
-        io::write_all(TOLD, b"1");
-    } else {
-        io::write_all(TOLD, b"0");
+// What a shell says of a program that a broken pipe has ended.
+const BROKEN_PIPE: u8 = 141;
+
+fn main(rt: HostRuntime) -> ExitCode {
+    match jobs::run(rt.stdin(), rt.stdout(), rt.stderr()) {
+        Ending::Whole => ExitCode::SUCCESS,
+        Ending::CutOff => ExitCode::FAILURE,
+        Ending::Unwanted => ExitCode::from(BROKEN_PIPE),
     }
 }

@@ -1,0 +1,10 @@
+-- n is at most the number of places (invariant) and falls (measure).
+use Prim.Native.Nat.{◌≤◌}
+use Rattle.kinds.specs.Limits.{most_entries}
+use Rattle.jobs.proofs.poking.used_slots.Given as goal
+
+abbrev pub invariant-loop-n : goal.invariant-loop-n
+invariant-loop-n l = l.n ≤ most_entries
+
+abbrev pub decreases-loop-n : goal.decreases-loop-n
+decreases-loop-n l = l.n

@@ -2,9 +2,11 @@
 use mathlib.Core.Path.{◌≡◌, refl, sym, ap, ap₂, ◌∙◌}
 use mathlib.Core.Bool.{Bool, ◌&&◌}
 use mathlib.Core.List.{List, [], ◌∷◌}
-use Prim.Native.Nat.{ℕ, ◌+◌, ◌≤◌}
+use Prim.Native.Nat.{ℕ, ◌+◌, ◌-◌, ◌≤◌, ◌<◌}
 use native.Mathlib.Omega.{arith}
-use lib.ListN.{length}
+use lib.ListN.{length, get_or, take, drop, length-drop}
+use Rattle.std.specs.List.{zip, list_all}
+use Rattle.std.proofs.Common.{add-one, drop-cons, take_all}
 use Rattle.lists.specs.Lists.{every_at, alike}
 use Rattle.kinds.specs.Limits.{highest_task}
 use Rattle.kinds.specs.Tasks.{in_resource_wait}
@@ -13,6 +15,21 @@ use Rattle.rules.specs.Control.{Entry, lacks}
 use Rattle.rules.specs.SoundQueue.{wait_good, waits_good}
 use Rattle.queue.specs.Marking.{mark_at, all_marks, lacks_among, marks_among, all_marked, mark_at_lem}
 use Rattle.queue.specs.declared.marks.Marks.{Marks}
+
+-- each element tested beside what stands at its number, the first at n
+pub every_beside : {A B : Type 0} (test : A → B → Bool) (d : B) (xs : List A) (ys : List B) (n : ℕ)
+    → n + length xs ≤ length ys
+    → list_all (λ (p : A × B). test p.0 p.1) (zip xs (drop n ys)) ≡ every_at (λ k x. test x (get_or ys k d)) n xs
+every_beside test d [] ys n h = refl
+every_beside {A} {B} test d (x ∷ xs) ys n h =
+    let l : n < length ys = omega arith in
+    ap (λ (r : List B). list_all (λ (p : A × B). test p.0 p.1) (zip (x ∷ xs) r)) (drop-cons ys n d l)
+    ∙ ap (λ (b : Bool). test x (get_or ys n d) && b)
+    (rw (← add-one n) (every_beside test d xs ys (n + 1) (omega arith)))
+
+-- an array from place n on
+pub rest_from : {A : Type 0} (n : ℕ) (l : List A) → take (length l - n) (drop n l) ≡ drop n l
+rest_from {A} n l = take_all _ (drop n l) (omega (arith, length-drop {A = A}))
 
 -- the test of task n by its mark
 abbrev pub by_mark : Marks → ℕ → Task → Bool

@@ -3,3 +3,4 @@ pub mod Posts
 pub mod Sound
 pub mod Steps
 pub mod Places
+pub mod Staying

@@ -3,11 +3,11 @@ use Rattle.std.specs.Prelude.{◌≡◌, Bool, ◌&&◌, List, ℕ, ◌-◌, ◌
 use Rattle.std.proofs.Math.Path.{refl, sym, ap}
 use Rattle.std.proofs.Common.{◌∙◌, arith}
 use Rattle.std.proofs.Math.Bool.{true, false}
-use Rattle.std.proofs.Math.Dec.{leb, ltb}
-use borrow.Author.Tests.{ltb-true, ltb-false, leb-true, leb-false}
+use Rattle.std.proofs.Math.Dec.{leb}
+use borrow.Author.Tests.{leb-true, leb-false}
 use Rattle.lists.specs.Pick.{pick}
 use Rattle.kinds.specs.Limits.{lowest_task, highest_task}
-use Rattle.kinds.specs.Ranges.{between, task_good}
+use Rattle.kinds.specs.Ranges.{task_good}
 use Rattle.kinds.specs.Tasks.{no_task, is_live}
 use Rattle.kinds.specs.declared.areas.Area.{Area}
 use Rattle.kinds.specs.declared.tasks.Task.{Task}
@@ -25,18 +25,17 @@ good_by a x = pick (eqb a.subpool 0) (eqb a.owner.0 0) (live_by a.owner.0 x)
 
 module _ (ts : List Task) (long : length ts ≡ highest_task) (n j : ℕ) (at : n ≤ highest_task → j ≡ n - lowest_task) where
   pub live_at : live_by n (get_or ts j no_task) ≡ live ts n
-  unfolding between pick
-  live_at = one (ltb n lowest_task) (leb n highest_task) refl refl
+  live_at = one (leb lowest_task n) (leb n highest_task) refl refl
     where
-      one : (low high : Bool) → ltb n lowest_task ≡ low → leb n highest_task ≡ high
-          → (pick low false high && is_live (get_or ts j no_task).condition) ≡ live ts n
-      one true high e g =
-          let h : n ≡ 0 = omega (arith, ltb-true n lowest_task e) in
+      one : (low high : Bool) → leb lowest_task n ≡ low → leb n highest_task ≡ high
+          → ((low && high) && is_live (get_or ts j no_task).condition) ≡ live ts n
+      one false high e g =
+          let h : n ≡ 0 = omega (arith, leb-false lowest_task n e) in
           sym (ap (λ (x : Task). is_live x.condition) (place_none ts n h))
-      one false false e g =
+      one true false e g =
           sym (ap (λ (x : Task). is_live x.condition) (place_past ts n (omega (arith, leb-false n highest_task g))))
-      one false true e g =
-          let h : 0 < n = omega (arith, ltb-false n lowest_task e) in
+      one true true e g =
+          let h : 0 < n = leb-true lowest_task n e in
           ap (λ (k : ℕ). is_live (get_or ts k no_task).condition) (at (leb-true n highest_task g))
           ∙ sym (ap (λ (x : Task). is_live x.condition) (place_at ts n h))
 

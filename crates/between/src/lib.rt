@@ -4,34 +4,34 @@
 pub mod entries;
 pub mod entries_ending;
 pub mod owners;
+mod staying;
 pub mod waiters;
 pub mod waiters_ending;
 pub mod waking;
 
-ghost use Rattle.std.specs.Prelude.{◌≡◌, ◌-◌, ◌≤◌, ◌<◌};
-ghost use Rattle.kinds.specs.Limits.{lowest_task, highest_task};
-ghost use Rattle.between.specs.Places.{live_by};
+ghost use Rattle.std.specs.Prelude.{◌≡◌};
+ghost use Rattle.rules.specs.Family.{place, live};
 
 use kinds::{Task, TaskNumber};
+use tasks::TaskTable;
 
-// Where task n's place stands in the task table. A number that has none gets the first place, and `live_by` says no of
-// it. The loops of the sound test read places by it, so that the table is not copied for each entry or area.
-fn place_index(n: TaskNumber) -> usize
-    ensures { (result < highest_task) × (n.0 ≤ highest_task → result ≡ n.0 - lowest_task) }
+// A task's place; a number that has no place counts as free. Loops read places by it: `tasks::at` takes the table by
+// value, and would copy it in each turn.
+fn place(f: &TaskTable, n: TaskNumber) -> Task
+    ensures { result ≡ place f.now.places n.0 }
 {
     if n.0 == 0 {
-        return 0;
+        return Task::free();
     }
-    if TaskNumber::HIGHEST < n.0 {
-        return 0;
-    }
-    (n.0 - TaskNumber::LOWEST) as usize
+    // `get`: behind a reference a proof does not know how long an array is
+    f.places
+        .get((n.0 - 1) as usize)
+        .copied()
+        .unwrap_or(Task::free())
 }
 
-// Task n is live, where x is what stands at its place.
-fn live_by(n: TaskNumber, x: Task) -> bool
-    ensures { result ≡ live_by n.0 x }
+fn is_live(f: &TaskTable, n: TaskNumber) -> bool
+    ensures { result ≡ live f.now.places n.0 }
 {
-    let k = x.condition;
-    n.is_good() & k.is_live()
+    place(f, n).condition.is_live()
 }

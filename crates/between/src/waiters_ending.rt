@@ -3,36 +3,31 @@ ghost use Rattle.std.specs.Prelude.{◌≡◌, map};
 ghost use Rattle.rules.specs.Ending.{waiter_stays};
 ghost use Rattle.ecbs.specs.Blocks.{ecb_table_of};
 
+use crate::is_live;
 use ecbs::EcbTable;
-use kinds::{Ecb, EcbNumber, TaskNumber};
+use kinds::{Ecb, TaskNumber};
 use tasks::TaskTable;
 
 // The wait bit is off unless its task is live.
-fn waiter_stays(f: TaskTable, x: Ecb) -> Ecb
-    ensures { result ≡ waiter_stays f.places x }
+fn waiter_stays(f: &TaskTable, x: Ecb) -> Ecb
+    ensures { result ≡ waiter_stays f.now.places x }
 {
-    let w = x.waiter;
-    if tasks::is_live(f, w) {
+    if is_live(f, x.waiter) {
         return x;
     }
     Ecb {
         waiter: TaskNumber(0),
-        complete: x.complete,
-        code: x.code,
+        ..x
     }
 }
 
-// The wait bits of tasks that are not live are cleared. Each ECB is stored here: a call would copy them all.
+// The wait bits of tasks that are not live are cleared.
 pub fn wait_bits_left(e: EcbTable, f: TaskTable) -> EcbTable
     ensures { result ≡ ecb_table_of (map (waiter_stays f.places) e.ecbs) }
 {
     let mut r = e;
-    let mut i: usize = 0;
-    while i < EcbNumber::PLACES {
-        let x = r.ecbs[i];
-        let y = waiter_stays(f, x);
-        r.ecbs[i] = y;
-        i += 1;
+    for x in r.ecbs.iter_mut() {
+        *x = waiter_stays(&f, *x);
     }
     r
 }

@@ -6,7 +6,7 @@ ghost use Rattle.queue.specs.Queues.{entries_in};
 ghost use Rattle.tasks.specs.TaskTables.{task_table_of};
 ghost use Rattle.between.specs.Waiting.{wait_marks, wake_if};
 
-use kinds::{Condition, Task, TaskNumber};
+use kinds::{Condition, Task};
 use queue::{Marks, Queue};
 use tasks::TaskTable;
 
@@ -15,13 +15,8 @@ fn waiting(f: TaskTable) -> Marks
     ensures { result ≡ wait_marks f.places }
 {
     let mut m = queue::no_marks();
-    let mut i = 0;
-    while i < TaskNumber::PLACES {
-        let x = f.places[i];
-        let k = x.condition;
-        let b = k.in_resource_wait();
-        i += 1;
-        m.tasks[i] = b;
+    for (i, x) in f.places.iter().enumerate() {
+        m.tasks[i + 1] = x.condition.in_resource_wait();
     }
     m
 }
@@ -30,14 +25,10 @@ fn waiting(f: TaskTable) -> Marks
 fn woken(x: Task, lacks: bool) -> Task
     ensures { result ≡ wake_if lacks x }
 {
-    let k = x.condition;
-    if !k.in_resource_wait() {
-        return x;
+    if x.condition.in_resource_wait() && !lacks {
+        return x.with_condition(Condition::Ready);
     }
-    if lacks {
-        return x;
-    }
-    x.with_condition(Condition::Ready)
+    x
 }
 
 // Whoever is in a resource wait and lacks nothing is ready. Only the entries of those who wait are looked at.
@@ -45,16 +36,10 @@ pub fn wake(q: Queue, f: TaskTable) -> TaskTable
     requires { q.count ≤ most_entries }
     ensures { result ≡ task_table_of (wake_by (entries_in q) f.places) }
 {
-    let among = waiting(f);
-    let m = queue::lacking(q, among);
+    let lacking = queue::lacking(q, waiting(f));
     let mut g = f;
-    let mut i = 0;
-    while i < TaskNumber::PLACES {
-        let x = g.places[i];
-        let l = m.tasks[i + 1];
-        let y = woken(x, l);
-        g.places[i] = y;
-        i += 1;
+    for (i, x) in g.places.iter_mut().enumerate() {
+        *x = woken(*x, lacking.tasks[i + 1]);
     }
     g
 }

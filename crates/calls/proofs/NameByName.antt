@@ -10,8 +10,7 @@ use Rattle.lists.specs.Pick.{pick}
 use Rattle.kinds.specs.Replies.{number_of}
 use Rattle.kinds.specs.declared.numbers.TaskNumber.{TaskNumber}
 use Rattle.kinds.specs.declared.requests.Ret.TheVariants.{Have}
-use Rattle.kinds.specs.declared.replies.Gate.TheVariants.{Open}
-use Rattle.kinds.specs.declared.replies.Verdict.TheVariants.{Go}
+use Rattle.std.specs.Prelude.{Ok}
 use Rattle.rules.specs.Names.{Ask, Names}
 use Rattle.rules.specs.Codes.{written_on}
 use Rattle.rules.specs.Events.{Ecbs}
@@ -30,8 +29,8 @@ use Rattle.calls.specs.Calls.{Call}
 use Rattle.calls.proofs.Runs.{promises, as_ruled}
 
 module _ (t : Tables) (c : TaskNumber) (l : Names) (es : Ecbs) (area : List ℕ) (r : Answer) (codes : List ℕ)
-    (k : Call t (enq_asked c Have l es area) r codes) (h : soundb t ≡ true) (o : gate_of (step_of t) c ≡ Open)
-    (g : enq_verdict (step_of t).queue c Have l (length area) ≡ Go) where
+    (k : Call t (enq_asked c Have l es area) r codes) (h : soundb t ≡ true) (o : gate_of (step_of t) c ≡ Ok tt)
+    (g : enq_verdict (step_of t).queue c Have l (length area) ≡ Ok tt) where
   abbrev asked : Asked
   asked = enq_asked c Have l es area
 

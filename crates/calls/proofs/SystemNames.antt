@@ -11,7 +11,7 @@ use Rattle.kinds.specs.declared.numbers.TaskNumber.{TaskNumber}
 use Rattle.kinds.specs.declared.requests.Ret.{Ret}
 use Rattle.kinds.specs.declared.replies.Reply.TheVariants.{Done}
 use Rattle.kinds.specs.declared.replies.Refusal.TheVariants.{Unsound, SystemName}
-use Rattle.kinds.specs.declared.replies.Gate.TheVariants.{Open}
+use Rattle.std.specs.Prelude.{Ok}
 use Rattle.rules.specs.Names.{Names, asks_system}
 use Rattle.rules.specs.Events.{Ecbs}
 use Rattle.rules.specs.Steps.{Served, refused, untouched}
@@ -35,7 +35,7 @@ use Rattle.calls.proofs.Runs.{promises, as_ruled, calls_demand_three}
 
 module _ (t : Tables) (c : TaskNumber) (ret : Ret) (l : Names) (es : Ecbs) (area : List ℕ) (r : Answer)
     (codes : List ℕ) (k : Call t (enq_asked c ret l es area) r codes) (h : soundb t ≡ true)
-    (o : gate_of (step_of t) c ≡ Open) (good : enq_good ret l ≡ true) where
+    (o : gate_of (step_of t) c ≡ Ok tt) (good : enq_good ret l ≡ true) where
   abbrev asked : Asked
   asked = enq_asked c ret l es area
 

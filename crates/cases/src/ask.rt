@@ -2,11 +2,7 @@
 ghost use Rattle.std.specs.Prelude.{◌≡◌};
 ghost use Rattle.cases.specs.Asked.{next_tables};
 
-use crate::show;
-use kinds::{
-    Address, EcbChecked, EcbList, EcbNumber, MaybeAddress, Name, NameList, Request, TaskChecked,
-    TaskNumber, Wanted,
-};
+use kinds::{Address, EcbList, EcbNumber, Name, NameList, Request, Ret, TaskNumber, Wanted};
 use services::Tables;
 use std::io::Stdout;
 
@@ -15,91 +11,72 @@ pub(crate) const CODES: usize = 4;
 
 pub(crate) const UNWRITTEN: u8 = 0xee;
 
-// A fresh step whose first task has the priorities 200 and 150.
-pub(crate) fn fresh(out: Stdout, text: &[u8]) -> Tables {
-    let start = Tables::fresh(200, 150);
-    let reply = start.reply;
-    let codes = [UNWRITTEN; CODES];
-    show::answer(out, text, reply, &codes);
-    start.tables
+// A step's tables, and where its lines are written.
+#[derive(Clone, Copy)]
+pub(crate) struct Step {
+    pub(crate) out: Stdout,
+    pub(crate) tables: Tables,
 }
 
-// The answer is told, and its tables come back for the next request.
-pub(crate) fn beside(
-    out: Stdout,
-    text: &[u8],
-    t: Tables,
-    request: Request,
-    names: NameList,
-    ecbs: EcbList,
-) -> Tables
-    ensures { result ≡ next_tables t request names ecbs }
-{
-    let mut codes = [UNWRITTEN; CODES];
-    let answer = t.serve(request, names, ecbs, &mut codes);
-    let reply = answer.reply;
-    let next = answer.tables;
-    show::answer(out, text, reply, &codes);
-    next
-}
+impl Step {
+    // A fresh step whose first task has the priorities 200 and 150.
+    pub(crate) fn fresh(out: Stdout, text: &str) -> Step {
+        let start = Tables::fresh(200, 150);
+        let step = Step {
+            out,
+            tables: start.tables,
+        };
+        step.tell_answer(text, start.reply, [UNWRITTEN; CODES]);
+        step
+    }
 
-// A request that has no use for a list.
-pub(crate) fn plainly(out: Stdout, text: &[u8], t: Tables, request: Request) -> Tables {
-    beside(out, text, t, request, no_names(), no_ecbs())
-}
+    // The answer is told, and its tables are there for the next request.
+    pub(crate) fn beside(&mut self, text: &str, request: Request, names: NameList, ecbs: EcbList)
+        ensures { self.new.tables ≡ next_tables self.old.tables request names ecbs }
+    {
+        let mut codes = [UNWRITTEN; CODES];
+        let answer = self.tables.serve(request, names, ecbs, &mut codes);
+        self.tables = answer.tables;
+        self.tell_answer(text, answer.reply, codes);
+    }
 
-// An ENQ or a DEQ.
-pub(crate) fn naming(
-    out: Stdout,
-    text: &[u8],
-    t: Tables,
-    request: Request,
-    names: NameList,
-) -> Tables {
-    beside(out, text, t, request, names, no_ecbs())
-}
+    // A request that has no use for a list.
+    pub(crate) fn plainly(&mut self, text: &str, request: Request) {
+        self.beside(text, request, NameList::none(), EcbList::none());
+    }
 
-// A WAIT.
-pub(crate) fn waiting(
-    out: Stdout,
-    text: &[u8],
-    t: Tables,
-    request: Request,
-    ecbs: EcbList,
-) -> Tables {
-    beside(out, text, t, request, no_names(), ecbs)
-}
+    // Task 1 attaches a task.
+    pub(crate) fn attach(&mut self, text: &str, lpmod: u16, dpmod: i16) {
+        let request = Request::Attach {
+            caller: task(1),
+            lpmod,
+            dpmod,
+            ecb: None,
+        };
+        self.plainly(text, request);
+    }
 
-fn no_names() -> NameList {
-    let mut l = one(false, name(0, 0, 0));
-    l.count = 0;
-    l
-}
-
-fn no_ecbs() -> EcbList {
-    let n = ecb(0);
-    EcbList {
-        count: 0,
-        ecbs: [n; NameList::MOST],
+    pub(crate) fn enq(&mut self, text: &str, caller: TaskNumber, ret: Ret, names: NameList) {
+        let request = Request::Enq { caller, ret };
+        self.beside(text, request, names, EcbList::none());
     }
 }
 
 // A list of one name. It stands at the places past the count too, where it counts for nothing.
 pub(crate) fn one(exclusive: bool, name: Name) -> NameList {
-    let wanted = Wanted { exclusive, name };
     NameList {
         count: 1,
-        names: [wanted; NameList::MOST],
+        names: [Wanted { exclusive, name }; NameList::MOST],
     }
 }
 
 // A name whose minor part begins with two bytes, and then has zeros.
 pub(crate) fn name(first: u8, second: u8, length: u16) -> Name {
-    let mut minor = [0u8; Name::LONGEST];
+    let mut minor = [0; Name::LONGEST];
     minor[0] = first;
     minor[1] = second;
     Name {
-        major: [88u8; Name::MAJOR],
+        major: [b'X'; Name::MAJOR],
         minor,
         length,
     }
@@ -108,22 +85,13 @@ pub(crate) fn name(first: u8, second: u8, length: u16) -> Name {
 // The kinds of a case's numbers. One that is out of range stays so: what asks for it is refused, by 101, and the output
 // is held to what the case says.
 pub(crate) fn task(n: u32) -> TaskNumber {
-    match TaskNumber::new(n) {
-        TaskChecked::GoodTask(task) => task,
-        TaskChecked::BadTask => TaskNumber(TaskNumber::HIGHEST + 1),
-    }
+    TaskNumber::new(n).unwrap_or(TaskNumber(TaskNumber::HIGHEST + 1))
 }
 
 pub(crate) fn ecb(n: u32) -> EcbNumber {
-    match EcbNumber::new(n) {
-        EcbChecked::GoodEcb(ecb) => ecb,
-        EcbChecked::BadEcb => EcbNumber(EcbNumber::HIGHEST + 1),
-    }
+    EcbNumber::new(n).unwrap_or(EcbNumber(EcbNumber::HIGHEST + 1))
 }
 
 pub(crate) fn address(n: u32) -> Address {
-    match Address::new(n) {
-        MaybeAddress::At(address) => address,
-        MaybeAddress::Nowhere => Address(Address::HIGHEST + 1),
-    }
+    Address::new(n).unwrap_or(Address(Address::HIGHEST + 1))
 }

@@ -14,17 +14,17 @@ mod waiting;
 fn main(rt: HostRuntime) {
     let out = rt.stdout();
     let asked = queueing::case_1(out);
-    let changed = queueing::case_2(out, asked);
-    queueing::case_3(out, changed);
-    queueing::case_4(out, asked);
+    let changed = queueing::case_2(asked);
+    queueing::case_3(changed);
+    queueing::case_4(asked);
     let first = priorities::case_5(out);
-    priorities::case_6(out, first);
+    priorities::case_6(first);
     let stored = storing::case_7(out);
-    storing::case_8(out, stored);
+    storing::case_8(stored);
     storing::case_9(out);
     waiting::case_10(out);
     let named = limits::case_11_names(out);
-    limits::case_11_entries(out, named);
+    limits::case_11_entries(named);
     pages::every_page(out);
     pages::without_gaps(out);
 }

@@ -1,180 +1,93 @@
 // Lines that tell an answer or a part of the tables. Each begins with the text that it is given. Where one cannot be
 // written nothing more is said of it.
-ghost use Rattle.std.specs.Prelude.{◌≤◌};
-ghost use Rattle.kinds.specs.Limits.{most_entries};
-
-use crate::ask;
-use crate::ask::{CODES, UNWRITTEN};
-use ecbs::EcbTable;
+use crate::ask::{CODES, Step, UNWRITTEN};
 use kinds::{Area, Reply, Slot, TaskNumber};
-use queue::Queue;
-use services::Tables;
-use std::io::{Print, Stdout};
-use storage::Storage;
-use tasks::TaskTable;
+use std::io::Print;
 
-fn number(out: Stdout, n: u64) {
-    let _ = print!(out; "{n}");
-}
-
-fn words(out: Stdout, text: &[u8]) {
-    let _ = out.write_all(text);
-}
-
-// The number, what goes besides and, where a byte was written, the codes area.
-pub(crate) fn answer(out: Stdout, text: &[u8], reply: Reply, codes: &[u8; CODES]) {
-    words(out, text);
-    words(out, b": ");
-    number(out, reply.number() as u64);
-    words(out, b" ");
-    number(out, reply.besides() as u64);
-    let first = codes[0] != UNWRITTEN || codes[1] != UNWRITTEN;
-    let last = codes[2] != UNWRITTEN || codes[3] != UNWRITTEN;
-    if first || last {
-        codes_area(out, codes);
-    }
-    words(out, b"\n");
-}
-
-fn codes_area(out: Stdout, codes: &[u8; CODES]) {
-    words(out, b" codes=");
-    byte(out, codes[0]);
-    byte(out, codes[1]);
-    byte(out, codes[2]);
-    byte(out, codes[3]);
-}
-
-fn byte(out: Stdout, b: u8) {
-    let _ = print!(out; "{b:02x}");
-}
-
-// The entries in their order.
-pub(crate) fn entries(out: Stdout, text: &[u8], q: Queue) {
-    let mut i: usize = 0;
-    while i < Slot::PLACES {
-        if i < q.count {
-            let e = q.slots[i];
-            entry(out, text, e, barred(q, i, e));
+impl Step {
+    // The number, what goes besides and, where a byte was written, the codes area.
+    pub(crate) fn tell_answer(&self, text: &str, reply: Reply, codes: [u8; CODES]) {
+        let out = self.out;
+        let _ = print!(out; "{text}: {} {}", reply.number(), reply.besides());
+        if codes.iter().any(|b| *b != UNWRITTEN) {
+            let [a, b, c, d] = codes;
+            let _ = print!(out; " codes={a:02x}{b:02x}{c:02x}{d:02x}");
         }
-        i += 1;
+        let _ = println!(out);
     }
-}
 
-fn entry(out: Stdout, text: &[u8], e: Slot, waits: bool) {
-    words(out, text);
-    words(out, b": entry of task ");
-    number(out, e.task.0 as u64);
-    if e.exclusive {
-        words(out, b", exclusive");
-    } else {
-        words(out, b", shared");
-    }
-    if waits {
-        words(out, b", waits\n");
-    } else {
-        words(out, b", has control\n");
-    }
-}
-
-// One of the first n entries keeps e waiting. This looks at the entries alone, and not at what the tasks do.
-fn barred(q: Queue, n: usize, e: Slot) -> bool
-    requires { n ≤ most_entries }
-{
-    let mut j: usize = 0;
-    while j < n {
-        let x = q.slots[j];
-        if queue::bars(x, e) {
-            return true;
+    // The entries in their order.
+    pub(crate) fn tell_entries(&self, text: &str) {
+        let out = self.out;
+        let slots = &self.tables.all.queue.slots;
+        for (i, e) in slots.iter().enumerate().take(self.tables.all.queue.count) {
+            let kind = if e.exclusive { "exclusive" } else { "shared" };
+            let state = if barred(&slots[..i], *e) {
+                "waits"
+            } else {
+                "has control"
+            };
+            let _ = println!(out; "{text}: entry of task {}, {kind}, {state}", e.task.0);
         }
-        j += 1;
     }
-    false
-}
 
-pub(crate) fn entry_count(out: Stdout, text: &[u8], q: Queue) {
-    words(out, text);
-    words(out, b": entries: ");
-    number(out, q.count as u64);
-    words(out, b"\n");
-}
-
-// The tasks that wait, for names or for posts.
-pub(crate) fn waiting(out: Stdout, text: &[u8], f: TaskTable) {
-    words(out, text);
-    words(out, b": tasks in a wait:");
-    let mut n = TaskNumber::LOWEST;
-    while n <= TaskNumber::HIGHEST {
-        waiter(out, f, n);
-        n += 1;
+    pub(crate) fn tell_entry_count(&self, text: &str) {
+        let _ = println!(self.out; "{text}: entries: {}", self.tables.all.queue.count);
     }
-    words(out, b"\n");
-}
 
-fn waiter(out: Stdout, f: TaskTable, n: u8) {
-    let task = tasks::at(f, ask::task(n as u32));
-    let condition = task.condition;
-    if condition.waits() {
-        words(out, b" ");
-        number(out, n as u64);
-    }
-}
-
-pub(crate) fn priorities(out: Stdout, text: &[u8], f: TaskTable, n: TaskNumber) {
-    let task = tasks::at(f, n);
-    words(out, text);
-    words(out, b": limit ");
-    number(out, task.limit as u64);
-    words(out, b", dispatching ");
-    number(out, task.dispatching as u64);
-    words(out, b"\n");
-}
-
-// The areas by rising address.
-pub(crate) fn areas(out: Stdout, text: &[u8], s: Storage) {
-    let mut i: usize = 0;
-    while i < Area::PLACES {
-        if i < s.count {
-            area(out, text, s.areas[i]);
+    // The tasks that wait, for names or for posts.
+    pub(crate) fn tell_waits(&self, text: &str) {
+        let out = self.out;
+        let _ = print!(out; "{text}: tasks in a wait:");
+        for (i, x) in self.tables.all.tasks.places.iter().enumerate() {
+            if x.condition.waits() {
+                let _ = print!(out; " {}", i + TaskNumber::LOWEST as usize);
+            }
         }
-        i += 1;
+        let _ = println!(out);
+    }
+
+    pub(crate) fn tell_priorities(&self, text: &str, n: TaskNumber) {
+        let task = tasks::at(self.tables.all.tasks, n);
+        let limit = task.limit;
+        let dispatching = task.dispatching;
+        let _ = println!(self.out; "{text}: limit {limit}, dispatching {dispatching}");
+    }
+
+    // The areas by rising address.
+    pub(crate) fn tell_areas(&self, text: &str) {
+        let out = self.out;
+        let storage = &self.tables.all.storage;
+        for a in storage.areas.iter().take(storage.count) {
+            let Area {
+                start,
+                size,
+                subpool,
+                owner,
+            } = *a;
+            let _ = print!(out; "{text}: area at {}, {size} bytes, ", start.0);
+            let _ = println!(out; "subpool {subpool}, owner {}", owner.0);
+        }
+    }
+
+    // The words of the first three ECBs after ECB 0, as the book has them.
+    pub(crate) fn tell_ecbs(&self, text: &str) {
+        let out = self.out;
+        let _ = print!(out; "{text}: words of ECBs 1, 2, 3:");
+        for x in &self.tables.all.ecbs.ecbs[1..=3] {
+            let _ = print!(out; " {:08x}", ecbs::word(*x));
+        }
+        let _ = println!(out);
+    }
+
+    pub(crate) fn tell_end(&self, text: &str) {
+        let over = u8::from(self.tables.all.over);
+        let code = self.tables.all.code;
+        let _ = println!(self.out; "{text}: step over {over}, code {code}");
     }
 }
 
-fn area(out: Stdout, text: &[u8], a: Area) {
-    words(out, text);
-    words(out, b": area at ");
-    number(out, a.start.0 as u64);
-    words(out, b", ");
-    number(out, a.size as u64);
-    words(out, b" bytes, subpool ");
-    number(out, a.subpool as u64);
-    words(out, b", owner ");
-    number(out, a.owner.0 as u64);
-    words(out, b"\n");
-}
-
-// The words of the first three ECBs after ECB 0, as the book has them.
-pub(crate) fn ecbs(out: Stdout, text: &[u8], e: EcbTable) {
-    words(out, text);
-    words(out, b": words of ECBs 1, 2, 3:");
-    word(out, e, 1);
-    word(out, e, 2);
-    word(out, e, 3);
-    words(out, b"\n");
-}
-
-fn word(out: Stdout, e: EcbTable, n: u32) {
-    let x = ecbs::at(e, ask::ecb(n));
-    words(out, b" ");
-    let bits = ecbs::word(x);
-    let _ = print!(out; "{bits:08x}");
-}
-
-pub(crate) fn step(out: Stdout, text: &[u8], t: Tables) {
-    words(out, text);
-    words(out, b": step over ");
-    number(out, if t.all.over { 1 } else { 0 });
-    words(out, b", code ");
-    number(out, t.all.code as u64);
-    words(out, b"\n");
+// One of the entries before e keeps it waiting. This looks at the entries alone, and not at what the tasks do.
+fn barred(before: &[Slot], e: Slot) -> bool {
+    before.iter().any(|x| queue::bars(*x, e))
 }

@@ -1,56 +1,43 @@
 // Case 10: events.
-use crate::{ask, show};
-use kinds::{EcbList, EcbNumber, MaybeEcb, NameList, Request};
-use services::Tables;
+use crate::ask;
+use crate::ask::Step;
+use kinds::{EcbList, EcbNumber, NameList, Request};
 use std::io::Stdout;
 
-fn post(out: Stdout, text: &[u8], t: Tables, ecb: EcbNumber, code: u32) -> Tables {
+fn post(step: &mut Step, text: &str, ecb: EcbNumber, code: u32) {
     let caller = ask::task(1);
-    ask::plainly(out, text, t, Request::Post { caller, ecb, code })
-}
-
-fn with_waiter(out: Stdout) -> Tables {
-    let t = ask::fresh(out, b"10: fresh step, 200/150");
-    ask::plainly(
-        out,
-        b"10: task 1 attaches a waiter",
-        t,
-        Request::Attach {
-            caller: ask::task(1),
-            lpmod: 0,
-            dpmod: 0,
-            ecb: MaybeEcb::NoEcb,
-        },
-    )
+    step.plainly(text, Request::Post { caller, ecb, code });
 }
 
 // ECBs 1, 2 and 3.
 fn three() -> EcbList {
-    let first = ask::ecb(1);
-    let mut ecbs = [first; NameList::MOST];
+    let mut ecbs = [ask::ecb(1); NameList::MOST];
     ecbs[1] = ask::ecb(2);
     ecbs[2] = ask::ecb(3);
     EcbList { count: 3, ecbs }
 }
 
-fn told(out: Stdout, t: Tables) {
-    show::ecbs(out, b"10", t.all.ecbs);
-    show::waiting(out, b"10", t.all.tasks);
+fn tell(step: &Step) {
+    step.tell_ecbs("10");
+    step.tell_waits("10");
 }
 
 // 10: one post is enough for who waits for two of three with one complete, and leaves no wait bit.
 pub(crate) fn case_10(out: Stdout) {
-    let t = with_waiter(out);
-    let one = post(out, b"10: POST of ECB 1, code 7", t, ask::ecb(1), 7);
-    let caller = ask::task(2);
-    let waits = ask::waiting(
-        out,
-        b"10: WAIT for 2 of ECBs 1, 2, 3",
-        one,
-        Request::Wait { caller, count: 2 },
+    let mut step = Step::fresh(out, "10: fresh step, 200/150");
+    step.attach("10: task 1 attaches a waiter", 0, 0);
+    post(&mut step, "10: POST of ECB 1, code 7", ask::ecb(1), 7);
+    let request = Request::Wait {
+        caller: ask::task(2),
+        count: 2,
+    };
+    step.beside(
+        "10: WAIT for 2 of ECBs 1, 2, 3",
+        request,
+        NameList::none(),
         three(),
     );
-    told(out, waits);
-    let woken = post(out, b"10: POST of ECB 3, code 9", waits, ask::ecb(3), 9);
-    told(out, woken);
+    tell(&step);
+    post(&mut step, "10: POST of ECB 3, code 9", ask::ecb(3), 9);
+    tell(&step);
 }

@@ -1,39 +1,41 @@
 -- THE SEARCH OF EVERY MULTIPLE OF 8: a try that fails goes on 8 bytes further up.
 use mathlib.Core.Path.{◌≡◌, sym, ap, ◌∙◌}
-use mathlib.Core.Bool.{Bool, false}
+use mathlib.Core.Bool.{false}
 use mathlib.Core.List.{List}
 use Prim.Native.Nat.{ℕ, ◌+◌, ◌≤◌, ◌<◌}
 use native.Mathlib.Omega.{arith}
 use lib.ListN.{take}
 use borrow.Author.Tests.{le-leb}
-use Rattle.lists.specs.Loops.{yet_failed}
-use Rattle.kinds.specs.Limits.{doubleword}
+use Rattle.lists.specs.Lists.{every}
+use Rattle.kinds.specs.Limits.{region, doubleword}
 use Rattle.kinds.specs.declared.areas.Area.{Area}
-use Rattle.rules.specs.Storage.{permitted, placed_at, lowest_from}
+use Rattle.rules.specs.Storage.{past_end, apart, permitted, placed_at, lowest_from}
 use Rattle.mainstorage.proofs.Passed.{multiples_from, lowest_over}
-use Rattle.mainstorage.proofs.Searching.{Searching, Testing}
+use Rattle.mainstorage.proofs.Searching.{Searching}
 
-module _ {l : List Area} {n : ℕ} {w : Area} {s : ℕ} {a : Area} {free : Bool} {j : ℕ} (h : Searching l n w s)
-    (t : Testing l n w s a free j) where
-  barred : free ≡ false → permitted (take n l) a ≡ false
-  unfolding permitted
-  barred e = rw (le-leb _ _ t.ends) (yet_failed t.tested e)
+-- the area a wanted, placed at s, is not apart from all
+pub search_on : {l : List Area} {n : ℕ} {w : Area} {s : ℕ} → Searching l n w s → s < region → (a : Area)
+    → a ≡ placed_at w s → past_end a ≤ region → every (apart a) (take n l) ≡ false → (u : ℕ) → u ≡ s + doubleword
+    → Searching l n w u
+unfolding permitted
+search_on {l} {n} {w} {s} h inside a here ends e u next =
+    let m : 1 + multiples_from u ≡ multiples_from s = omega (arith, h.aligned, inside) in
+    record {
+      few = h.few;
+      full = h.full;
+      aligned = omega (arith, h.aligned);
+      same =
+          h.same ∙ ap (λ (k : ℕ). lowest_from k (take n l) w s) (sym m)
+          ∙ lowest_over (take n l) w (s + 1) (multiples_from u) 1 s (omega arith) passed
+          ∙ ap (lowest_from (multiples_from u) (take n l) w) (sym next);
+    }
+  where
+    barred : permitted (take n l) a ≡ false
+    barred = rw (le-leb _ _ ends) e
 
-  pub search_on : free ≡ false → Searching l n w (s + doubleword)
-  search_on e =
-      let m : 1 + multiples_from (s + doubleword) ≡ multiples_from s = omega (arith, h.aligned, t.inside) in
-      record {
-        few = h.few;
-        full = h.full;
-        aligned = omega (arith, h.aligned);
-        same =
-            h.same ∙ ap (λ (k : ℕ). lowest_from k (take n l) w s) (sym m)
-            ∙ lowest_over (take n l) w (s + 1) (multiples_from (s + doubleword)) 1 s (omega arith) passed;
-      }
-    where
-      passed : (u : ℕ) → s ≤ u → u < s + 1 → permitted (take n l) (placed_at w u) ≡ false
-      passed u g v =
-          let z : u ≡ s = omega arith in
-          ap (λ (k : ℕ). permitted (take n l) (placed_at w k)) z
-          ∙ ap (permitted (take n l)) (sym t.here)
-          ∙ barred e
+    passed : (v : ℕ) → s ≤ v → v < s + 1 → permitted (take n l) (placed_at w v) ≡ false
+    passed v g k =
+        let z : v ≡ s = omega arith in
+        ap (λ (k : ℕ). permitted (take n l) (placed_at w k)) z
+        ∙ ap (permitted (take n l)) (sym here)
+        ∙ barred

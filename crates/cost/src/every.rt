@@ -2,41 +2,34 @@
 // promises is what `mainstorage::room::lowest` promises: the two always answer the same.
 ghost use Rattle.std.specs.Prelude.{◌≡◌, ◌≤◌};
 ghost use Rattle.kinds.specs.Limits.{most_areas};
-ghost use Rattle.rules.specs.Storage.{lowest as lowest_of};
+ghost use Rattle.lists.specs.Lists.{every};
+ghost use Rattle.rules.specs.Storage.{apart, lowest as lowest_of};
 ghost use Rattle.storage.specs.Stored.{areas_in};
 
-use kinds::{Address, Area, MaybeAddress};
-use storage::Storage;
+use kinds::{Address, Area};
+use storage::{Storage, areas};
 
-pub(crate) fn every_multiple(s: Storage, want: Area) -> MaybeAddress
+fn all_apart(live: &[Area], a: Area) -> bool
+    ensures { result ≡ every (apart a) live.now }
+{
+    live.iter().all(|x| areas::apart(a, *x))
+}
+
+pub(crate) fn every_multiple(s: Storage, want: Area) -> Option<Address>
     requires { s.count ≤ most_areas }
     ensures { result ≡ lowest_of (areas_in s) want }
 {
-    let n = s.count;
-    let owner = want.owner;
-    let mut at: u32 = 0;
-    while at < Address::REGION {
-        let a = Area {
-            start: Address(at),
-            size: want.size,
-            subpool: want.subpool,
-            owner,
-        };
+    let live = &s.areas[..s.count];
+    for n in 0..Address::REGION / Address::DOUBLEWORD {
+        let start = Address(n * Address::DOUBLEWORD);
+        let a = Area { start, ..want };
         // What ends beyond the region here does so further up too.
-        if (Address::REGION as u64) < storage::areas::end_of(a) {
-            return MaybeAddress::Nowhere;
+        if (Address::REGION as u64) < areas::end_of(a) {
+            return None;
         }
-        let mut free = true;
-        let mut j = 0;
-        while (j < n) & free {
-            let x = s.areas[j];
-            free = storage::areas::apart(a, x);
-            j += 1;
+        if all_apart(live, a) {
+            return Some(start);
         }
-        if free {
-            return MaybeAddress::At(Address(at));
-        }
-        at += Address::DOUBLEWORD;
     }
-    MaybeAddress::Nowhere
+    None
 }

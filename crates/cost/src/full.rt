@@ -2,10 +2,11 @@
 ghost use Rattle.std.specs.Prelude.{◌≤◌};
 
 use crate::numbers::{address, task};
-use kinds::{Address, Area, Condition, MaybeEcb, Name, NameOffset, Slot, Task, TaskNumber};
+use kinds::{Address, Area, Condition, Name, NameOffset, Slot, Task, TaskNumber};
 use namearea::NameArea;
 use queue::Queue;
 use services::Tables;
+use std::array;
 use storage::Storage;
 use tables::AllTables;
 use tasks::TaskTable;
@@ -18,48 +19,34 @@ const NAME: usize = Name::MAJOR + 1 + Name::LONGEST;
 
 // Every task place taken, by daughters of task 1.
 fn full_tasks() -> TaskTable {
-    let mut f = tasks::empty();
-    let mut i: usize = 0;
-    while i < TaskNumber::PLACES {
-        let mother = if i == 0 { 0 } else { 1 };
-        let x = Task {
+    TaskTable {
+        places: array::from_fn(|i| Task {
             condition: Condition::Ready,
-            mother: task(mother),
+            mother: task(u32::from(i != 0)),
             limit: PRIORITY,
             dispatching: PRIORITY,
-            ecb: MaybeEcb::NoEcb,
-        };
-        f.places[i] = x;
-        i += 1;
+            ecb: None,
+        }),
     }
-    f
 }
 
 // Every place of the queue taken, by exclusive entries, four of each task, and each for a name of its own.
 fn full_queue() -> Queue {
-    let mut q = queue::empty();
-    let mut i: usize = 0;
-    while i < Slot::PLACES {
-        let at = (i * NAME) as u16;
-        let x = Slot {
+    Queue {
+        slots: array::from_fn(|i| Slot {
             task: task((i % TaskNumber::PLACES + 1) as u32),
             exclusive: true,
-            name: NameOffset(at),
-        };
-        q.slots[i] = x;
-        i += 1;
+            name: NameOffset((i * NAME) as u16),
+        }),
+        count: Slot::PLACES,
     }
-    q.count = Slot::PLACES;
-    q
 }
 
 // The names of these entries, packed in their order.
 fn full_names() -> NameArea {
-    let mut bytes = [0u8; NameArea::BYTES];
-    let mut i: usize = 0;
-    while i < Slot::PLACES * NAME {
-        bytes[i] = name_byte((i / NAME) as u8, i % NAME);
-        i += 1;
+    let mut bytes = [0; NameArea::BYTES];
+    for (i, b) in bytes[..Slot::PLACES * NAME].iter_mut().enumerate() {
+        *b = name_byte((i / NAME) as u8, i % NAME);
     }
     NameArea { bytes }
 }
@@ -75,37 +62,27 @@ fn name_byte(entry: u8, at: usize) -> u8 {
 
 // Every area taken, each of the step, a doubleword long.
 fn full_storage() -> Storage {
-    let mut s = storage::empty();
-    let mut i: usize = 0;
-    while i < Area::PLACES {
-        let x = Area {
+    Storage {
+        areas: array::from_fn(|i| Area {
             start: address(i as u32 * Address::DOUBLEWORD),
             size: Address::DOUBLEWORD,
             subpool: 0,
-            owner: task(0),
-        };
-        s.areas[i] = x;
-        i += 1;
+            owner: TaskNumber(0),
+        }),
+        count: Area::PLACES,
     }
-    s.count = Area::PLACES;
-    s
 }
 
 fn full_tables() -> Tables {
-    let f = full_tasks();
-    let q = full_queue();
-    let e = ecbs::empty();
-    let s = full_storage();
-    let all = AllTables {
-        over: false,
-        code: 0,
-        tasks: f,
-        queue: q,
-        ecbs: e,
-        storage: s,
-    };
     Tables {
-        all,
+        all: AllTables {
+            over: false,
+            code: 0,
+            tasks: full_tasks(),
+            queue: full_queue(),
+            ecbs: ecbs::empty(),
+            storage: full_storage(),
+        },
         names: full_names(),
     }
 }
@@ -115,36 +92,22 @@ pub(crate) fn tests(n: u32) -> u32
     ensures { result ≤ n }
 {
     let mut t = full_tables();
-    let mut hits: u32 = 0;
-    let mut i: u32 = 0;
-    while i < n {
-        let code = (i % 2) as u16;
-        t.all.code = code;
-        hits += one_if(t.sound());
-        i += 1;
+    let mut hits = 0;
+    for i in 0..n {
+        t.all.code = (i % 2) as u16;
+        hits += u32::from(t.sound());
     }
     hits
 }
 
-fn one_if(b: bool) -> u32
-    ensures { result ≤ 1 }
-{
-    if b { 1 } else { 0 }
-}
-
 // n copies, from one place to another and back.
 pub(crate) fn copies(n: u32) -> u32 {
-    let t = full_tables();
-    let mut pair = [t; 2];
-    let mut i: u32 = 0;
-    while i < n {
+    let mut pair = [full_tables(); 2];
+    for i in 0..n {
         let at = (i % 2) as usize;
         let mut x = pair[at];
-        let code = (i % 1000) as u16;
-        x.all.code = code;
+        x.all.code = (i % 1000) as u16;
         pair[1 - at] = x;
-        i += 1;
     }
-    let last = pair[0];
-    last.all.code as u32
+    pair[0].all.code as u32
 }

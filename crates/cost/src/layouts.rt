@@ -114,18 +114,15 @@ pub(crate) fn laid(n: u32, l: Layout) -> Storage
     requires { (n ≤ most_areas) × Modest l }
 {
     let mut s = storage::empty();
-    let mut i: u32 = 0;
-    while i < n {
-        let start = i * l.pages / n * Address::PAGE + i * l.step;
-        let x = Area {
-            start: address(start),
+    s.count = n as usize;
+    for (i, x) in s.areas[..n as usize].iter_mut().enumerate() {
+        let i = i as u32;
+        *x = Area {
+            start: address(i * l.pages / n * Address::PAGE + i * l.step),
             size: l.size,
             subpool: l.subpool,
             owner: task(1),
         };
-        s.areas[i as usize] = x;
-        i += 1;
     }
-    s.count = n as usize;
     s
 }

@@ -8,15 +8,17 @@
 //   `.. eee m t`.
 #![tactic(auto)]
 
+ghost use Rattle.cost.specs.Searches.{Searched};
+
 mod every;
 mod full;
 mod layouts;
 mod numbers;
 mod searches;
 
-use crate::searches::Search;
-use kinds::MaybeAddress;
+use kinds::Address;
 use std::rt::Env;
+use tables::AllTables;
 
 // The longest word that is read, in letters.
 const LETTERS: usize = 8;
@@ -24,13 +26,7 @@ const LETTERS: usize = 8;
 // Ten turns, and ten times as many for each further letter.
 fn rounds(letters: usize) -> u32 {
     match letters {
-        2 => 100,
-        3 => 1000,
-        4 => 10000,
-        5 => 100000,
-        6 => 1000000,
-        7 => 10000000,
-        8 => 100000000,
+        2..=8 => 10u32.pow(letters as u32),
         _ => 10,
     }
 }
@@ -46,27 +42,22 @@ fn say(rt: HostRuntime, hits: u32, all: u32) {
     let _ = print!(rt; "{hits} of {all}");
 }
 
-fn say_place(rt: HostRuntime, place: MaybeAddress) {
-    match place {
-        MaybeAddress::At(a) => {
-            let at = a.0;
-            let _ = print!(rt; " at {at}");
-        }
-        MaybeAddress::Nowhere => {
-            let _ = print!(rt; " nowhere");
-        }
-    }
+fn say_place(rt: HostRuntime, place: Option<Address>) {
+    let _ = match place {
+        Some(Address(at)) => print!(rt; " at {at}"),
+        None => print!(rt; " nowhere"),
+    };
 }
 
-fn search(rt: HostRuntime, what: Search, all: u32) {
+fn search<F: Fn(&AllTables, u32, u32) -> Option<Address>>(rt: HostRuntime, search: F, all: u32)
+    requires { (t : _) (turn bytes : _) → Searched t.now bytes → F.pre search t turn bytes }
+{
     let n = layouts::number_of(letter(rt, 2));
     let layout = layouts::layout_of(letter(rt, 3), n);
-    let s = layouts::laid(n, layout);
-    let t = tables::put_storage(tables::over_with(0), s);
-    let answers = searches::repeated(what, all, t, layout.bytes);
+    let t = tables::put_storage(tables::over_with(0), layouts::laid(n, layout));
+    let answers = searches::repeated(search, all, &t, layout.bytes);
     say(rt, answers.found, all);
-    let last = answers.last;
-    say_place(rt, last);
+    say_place(rt, answers.last);
 }
 
 fn main(rt: HostRuntime) {
@@ -76,9 +67,9 @@ fn main(rt: HostRuntime) {
     let all = rounds(n);
     match word[0] {
         b'c' => say(rt, full::copies(all), all),
-        b'g' => search(rt, Search::Body, all),
-        b'l' => search(rt, Search::Lowest, all),
-        b'e' => search(rt, Search::Every, all),
+        b'g' => search(rt, searches::by_body, all),
+        b'l' => search(rt, searches::by_lowest, all),
+        b'e' => search(rt, searches::by_every, all),
         _ => say(rt, full::tests(all), all),
     }
     let _ = println!(rt);

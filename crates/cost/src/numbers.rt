@@ -1,19 +1,13 @@
 // Numbers made of their kinds by the checked constructors.
-use kinds::{Address, MaybeAddress, TaskChecked, TaskNumber};
+use kinds::{Address, TaskNumber};
 
 // The task of this number; where none has it, no task, which is 0. Where an entry has no task the tables are not sound,
 // and the hits that are written say so.
 pub(crate) fn task(n: u32) -> TaskNumber {
-    match TaskNumber::new(n) {
-        TaskChecked::GoodTask(task) => task,
-        TaskChecked::BadTask => TaskNumber(0),
-    }
+    TaskNumber::new(n).unwrap_or(TaskNumber(0))
 }
 
 // An address past the region stays past it: no area is sound there.
 pub(crate) fn address(n: u32) -> Address {
-    match Address::new(n) {
-        MaybeAddress::At(address) => address,
-        MaybeAddress::Nowhere => Address(Address::HIGHEST + 1),
-    }
+    Address::new(n).unwrap_or(Address(Address::HIGHEST + 1))
 }

@@ -1,87 +1,85 @@
 // GETMAIN's body, its search, and the search of every multiple of 8, each made over and over, without a sound test.
-ghost use Rattle.std.specs.Prelude.{◌≤◌};
+ghost use Rattle.std.specs.Prelude.{◌≡◌, true, ◌≤◌, ◌&&◌};
 ghost use Rattle.kinds.specs.Limits.{region, doubleword};
+ghost use Rattle.kinds.specs.Ranges.{length_good};
+ghost use Rattle.queue.specs.Queues.{packed_entries};
+ghost use Rattle.storage.specs.Stored.{packed_areas};
+ghost use Rattle.cost.specs.Searches.{Searched};
 
 use crate::every;
 use crate::layouts::ASKED;
 use crate::numbers::task;
-use kinds::{Address, Area, MaybeAddress, Reply};
+use kinds::{Address, Area, Reply};
 use tables::AllTables;
-
-// What is repeated.
-#[derive(Clone, Copy)]
-pub(crate) enum Search {
-    Body,
-    Lowest,
-    Every,
-}
 
 // How many calls found an address, and what the last one found.
 #[derive(Clone, Copy)]
 pub(crate) struct Answers {
     pub(crate) found: u32,
-    pub(crate) last: MaybeAddress,
-}
-
-fn one_if_at(place: MaybeAddress) -> u32
-    ensures { result ≤ 1 }
-{
-    match place {
-        MaybeAddress::At(a) => 1,
-        MaybeAddress::Nowhere => 0,
-    }
+    pub(crate) last: Option<Address>,
 }
 
 // The address answered, if x, one of the areas afterwards, can be one.
-fn place_in(reply: Reply, x: Area) -> MaybeAddress {
-    if Address::REGION < x.size {
-        return MaybeAddress::Nowhere;
-    }
+fn place_in(reply: Reply, x: Area) -> Option<Address> {
     match reply {
-        Reply::Got(a) => MaybeAddress::At(a),
-        _ => MaybeAddress::Nowhere,
+        Reply::Got(a) if x.size <= Address::REGION => Some(a),
+        _ => None,
     }
 }
 
-// n searches for `most` bytes or for up to 7 less by turns, which are rounded up to as many: what is asked for is made
-// anew each time, so that one search can't serve for all. They are made here, since a call in between would copy the
-// table.
-pub(crate) fn repeated(search: Search, n: u32, t: AllTables, most: u32) -> Answers
-    requires { (doubleword ≤ most) × (most ≤ region) }
+// Of the storage too something is looked at, at another place each time, so that all of it is made.
+pub(crate) fn by_body(t: &AllTables, turn: u32, bytes: u32) -> Option<Address>
+    requires { Searched t.now bytes }
 {
-    let mut found: u32 = 0;
-    let mut last = MaybeAddress::Nowhere;
-    if !queue::packed(t.queue) {
-        return Answers { found, last };
-    }
-    let s = t.storage;
-    if !storage::packed(s) {
-        return Answers { found, last };
-    }
-    let caller = task(1);
-    let mut i: u32 = 0;
-    while i < n {
-        let bytes = most - i % Address::DOUBLEWORD;
-        let want = mainstorage::asked::area_at(Address(0), bytes, ASKED, caller);
-        match search {
-            Search::Body => {
-                let made = mainstorage::getmain::served(t, caller, bytes, ASKED, true);
-                let reply = made.reply;
-                // Of the storage too something is looked at, at another place each time, so that all of it is made.
-                let all = made.tables;
-                let after = all.storage;
-                let x = after.areas[i as usize % Area::PLACES];
-                last = place_in(reply, x);
-            }
-            Search::Lowest => {
-                last = mainstorage::room::lowest(s, want);
-            }
-            Search::Every => {
-                last = every::every_multiple(s, want);
-            }
+    let made = mainstorage::getmain::served(*t, task(1), bytes, ASKED, true);
+    place_in(
+        made.reply,
+        made.tables.storage.areas[turn as usize % Area::PLACES],
+    )
+}
+
+fn wanted(bytes: u32) -> Area
+    requires { length_good bytes ≡ true }
+{
+    mainstorage::asked::area_at(Address(0), bytes, ASKED, task(1))
+}
+
+pub(crate) fn by_lowest(t: &AllTables, _turn: u32, bytes: u32) -> Option<Address>
+    requires { Searched t.now bytes }
+{
+    mainstorage::room::lowest(t.storage, wanted(bytes))
+}
+
+pub(crate) fn by_every(t: &AllTables, _turn: u32, bytes: u32) -> Option<Address>
+    requires { Searched t.now bytes }
+{
+    every::every_multiple(t.storage, wanted(bytes))
+}
+
+fn packed(t: &AllTables) -> bool
+    ensures { result ≡ (packed_entries t.now.queue && packed_areas t.now.storage) }
+{
+    queue::packed(t.queue) && storage::packed(t.storage)
+}
+
+// n searches for `most` bytes or for up to 7 less by turns, which are rounded up to as many: what is asked for is made
+// anew each time, so that one search can't serve for all.
+pub(crate) fn repeated<F: Fn(&AllTables, u32, u32) -> Option<Address>>(
+    search: F,
+    n: u32,
+    t: &AllTables,
+    most: u32,
+) -> Answers
+    requires sizes { (doubleword ≤ most) × (most ≤ region) }
+    requires calls { (t : _) (turn bytes : _) → Searched t.now bytes → F.pre search t turn bytes }
+{
+    let mut found = 0;
+    let mut last = None;
+    if packed(t) {
+        for i in 0..n {
+            last = search(t, i, most - i % Address::DOUBLEWORD);
+            found += u32::from(last.is_some());
         }
-        found += one_if_at(last);
-        i += 1;
     }
     Answers { found, last }
 }

@@ -36,9 +36,8 @@ impl Tally {
 pub fn empty() -> EcbTable
     ensures { result ≡ ecb_table_of no_events }
 {
-    let x = Ecb::zero();
     EcbTable {
-        ecbs: [x; EcbNumber::PLACES],
+        ecbs: [Ecb::zero(); EcbNumber::PLACES],
     }
 }
 
@@ -46,97 +45,72 @@ pub fn empty() -> EcbTable
 pub fn at(e: EcbTable, n: EcbNumber) -> Ecb
     ensures { result ≡ ecb_at e.ecbs n.0 }
 {
-    let k = n.0;
-    if EcbNumber::HIGHEST < k {
-        return Ecb::zero();
-    }
-    let i = k as usize;
-    e.ecbs[i]
+    e.ecbs.get(n.0 as usize).copied().unwrap_or(Ecb::zero())
 }
 
 // The book's word. It is wider than 32 bits, so that no code is too large.
+#[tactic(auto, unfolding(rules::specs::Events::word_of))]
 pub fn word(x: Ecb) -> u64
     ensures { result ≡ word_of x }
 {
-    let code = x.code as u64;
-    if x.waiter.0 == 0 {
-        if x.complete {
-            return EcbTable::COMPLETE_BIT + code;
-        }
-        return code;
-    }
-    if x.complete {
-        return EcbTable::WAIT_BIT + EcbTable::COMPLETE_BIT + code;
-    }
-    EcbTable::WAIT_BIT + code
+    let wait = if x.waiter.0 == 0 {
+        0
+    } else {
+        EcbTable::WAIT_BIT
+    };
+    let complete = if x.complete {
+        EcbTable::COMPLETE_BIT
+    } else {
+        0
+    };
+    wait + complete + x.code as u64
 }
 
 // The array has as many places as there are ECBs.
+#[tactic(auto, unfolding(rules::specs::SoundEcbs::ecbs_fit))]
 pub fn ecbs_fit(e: EcbTable) -> bool
     ensures { result ≡ ecbs_fit e.ecbs }
 {
     true // by the array's type
 }
 
-fn word_good(x: Ecb) -> bool
-    ensures { result ≡ ecb_word_good x }
+#[tactic(auto, unfolding(rules::specs::SoundEcbs::ecb_word_good))]
+fn word_good(x: &Ecb) -> bool
+    ensures { result ≡ ecb_word_good x.now }
 {
     if x.complete {
-        if x.waiter.0 == 0 {
-            return Ecb::code_good(x.code);
-        }
-        return false;
+        x.waiter.0 == 0 && Ecb::code_good(x.code)
+    } else {
+        x.code == 0
     }
-    x.code == 0
 }
 
+#[tactic(auto, unfolding(rules::specs::SoundEcbs::ecb_words_good))]
 pub fn words_good(e: EcbTable) -> bool
     ensures { result ≡ ecb_words_good e.ecbs }
 {
-    let mut i: usize = 0;
-    while i < EcbNumber::PLACES {
-        let x = e.ecbs[i];
-        if !word_good(x) {
-            return false;
-        }
-        i += 1;
-    }
-    true
+    e.ecbs.iter().all(word_good)
 }
 
-fn is_zero(x: Ecb) -> bool
-    ensures { result ≡ zero_ecb x }
+#[tactic(auto, unfolding(rules::specs::SoundEcbs::zero_ecb))]
+fn is_zero(x: &Ecb) -> bool
+    ensures { result ≡ zero_ecb x.now }
 {
-    if x.complete {
-        return false;
-    }
-    if x.waiter.0 == 0 {
-        return x.code == 0;
-    }
-    false
+    x.waiter.0 == 0 && !x.complete && x.code == 0
 }
 
 pub fn all_zero(e: EcbTable) -> bool
     ensures { result ≡ every zero_ecb e.ecbs }
 {
-    let mut i: usize = 0;
-    while i < EcbNumber::PLACES {
-        let x = e.ecbs[i];
-        if !is_zero(x) {
-            return false;
-        }
-        i += 1;
-    }
-    true
+    e.ecbs.iter().all(is_zero)
 }
 
 pub fn with_ecb(e: EcbTable, n: EcbNumber, x: Ecb) -> EcbTable
     requires { n.0 ≤ highest_ecb }
     ensures { result ≡ ecb_table_of (set e.ecbs n.0 x) }
 {
-    let i = n.0 as usize;
     let mut r = e;
-    r.ecbs[i] = x;
+    r.ecbs[n.0 as usize] = x;
     r
 }
 
@@ -152,17 +126,18 @@ pub fn completed(code: u32) -> Ecb
 }
 
 // The wait bit is off if task w set it.
+#[tactic(auto, unfolding(rules::specs::Events::unwaited, lists::specs::Pick::pick))]
 fn unwaited(x: Ecb, w: TaskNumber) -> Ecb
     ensures { result ≡ unwaited_of w.0 x }
 {
-    if x.waiter.0 == w.0 {
-        return Ecb {
+    if x.waiter == w {
+        Ecb {
             waiter: TaskNumber(0),
-            complete: x.complete,
-            code: x.code,
-        };
+            ..x
+        }
+    } else {
+        x
     }
-    x
 }
 
 // The wait bits that task w set are off.
@@ -170,12 +145,8 @@ pub fn unwaited_all(e: EcbTable, w: TaskNumber) -> EcbTable
     ensures { result ≡ ecb_table_of (map (unwaited_of w.0) e.ecbs) }
 {
     let mut r = e;
-    let mut i: usize = 0;
-    while i < EcbNumber::PLACES {
-        let x = r.ecbs[i];
-        let y = unwaited(x, w);
-        r.ecbs[i] = y;
-        i += 1;
+    for x in &mut r.ecbs {
+        *x = unwaited(*x, w);
     }
     r
 }
@@ -187,14 +158,11 @@ pub fn waited_on(e: EcbTable) -> Tally
     let mut t = Tally {
         ecbs: [0; Tally::PLACES],
     };
-    let mut i: usize = 0;
-    while i < EcbNumber::PLACES {
-        let x = e.ecbs[i];
+    for x in &e.ecbs {
         let w = x.waiter.0 as usize;
-        i += 1;
+        // an index: of what `get_mut` lends a proof knows too little here
         if w < Tally::PLACES {
-            let k = t.ecbs[w];
-            t.ecbs[w] = k + 1;
+            t.ecbs[w] += 1;
         }
     }
     t

@@ -11,7 +11,7 @@ use Rattle.kinds.specs.Ranges.{count_good}
 use Rattle.kinds.specs.declared.ecbs.Ecb.{Ecb}
 use Rattle.kinds.specs.declared.ecbs.EcbList.{EcbList}
 use Rattle.kinds.specs.declared.numbers.EcbNumber.{EcbNumber}
-use Rattle.kinds.specs.declared.replies.Verdict.TheVariants.{Go}
+use Rattle.std.specs.Prelude.{Ok}
 use Rattle.rules.specs.Events.{ecbs_good}
 use Rattle.rules.specs.Wait.{wait_tests, wait_verdict}
 use Rattle.laws.specs.Decided.{none_hold, good_of}
@@ -19,7 +19,7 @@ use Rattle.names.proofs.Listed.{count_few}
 use Rattle.ecbs.specs.Blocks.{ecbs_in}
 
 -- the count is at most that of the list, which is at most 16
-pub wait_few : (es : List Ecb) (l : EcbList) (n : ℕ) → wait_verdict es (ecbs_in l) n ≡ Go → n ≤ longest_list
+pub wait_few : (es : List Ecb) (l : EcbList) (n : ℕ) → wait_verdict es (ecbs_in l) n ≡ Ok tt → n ≤ longest_list
 unfolding wait_verdict ecbs_good
 wait_few es l n h =
     let g = none_hold (wait_tests es (ecbs_in l) n) h in

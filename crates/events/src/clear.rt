@@ -6,11 +6,12 @@ ghost use Rattle.tables.specs.Tables.{step_of, Packed};
 ghost use Rattle.tables.specs.Bodies.{told, body_of};
 
 use ecbs::EcbTable;
-use kinds::{Ecb, EcbNumber, Refusal, Reply, Verdict};
+use kinds::{Ecb, EcbNumber, No, Refusal, Reply};
 use tables::AllTables;
 use tables::made::{Made, goes, stays};
 
 // 101: the ECB's number.
+#[tactic(auto, unfolding(rules::specs::Clear::clear_good))]
 fn clear_good(ecb: EcbNumber) -> bool
     ensures { result ≡ clear_good ecb }
 {
@@ -21,23 +22,34 @@ fn clear_good(ecb: EcbNumber) -> bool
 fn wait_bit_on(e: EcbTable, ecb: EcbNumber) -> bool
     ensures { result ≡ wait_bit (ecb_at e.ecbs ecb.0) }
 {
-    let x = ecbs::at(e, ecb);
-    x.waiter.0 != 0
+    ecbs::at(e, ecb).waiter.0 != 0
+}
+
+// 101, then 109.
+#[tactic(auto, unfolding(rules::specs::Clear::clear_verdict), using(laws::specs::Decided::judged))]
+fn clear_verdict(e: EcbTable, ecb: EcbNumber) -> Result<(), No>
+    ensures { result ≡ clear_verdict e.ecbs ecb }
+{
+    if !clear_good(ecb) {
+        return Err(No::Refuse(Refusal::OutOfRange));
+    }
+    if wait_bit_on(e, ecb) {
+        return Err(No::Refuse(Refusal::WaitBitOn));
+    }
+    Ok(())
 }
 
 // CLEAR's tests; where they go on, the word becomes zero.
+#[tactic(auto, unfolding(rules::specs::Clear::clear_done), using(tables::proofs::Bodies::bodies))]
 pub fn served(t: AllTables, ecb: EcbNumber) -> Made
     requires { Packed t }
     ensures { told result ≡ body_of (clear_verdict t.ecbs.ecbs ecb) t (clear_done (step_of t) ecb) }
 {
-    if !clear_good(ecb) {
-        return stays(Verdict::Refuse(Refusal::OutOfRange), t);
+    match clear_verdict(t.ecbs, ecb) {
+        Ok(()) => {
+            let e = ecbs::with_ecb(t.ecbs, ecb, Ecb::zero());
+            goes(Reply::Done, tables::put_ecbs(t, e))
+        }
+        Err(no) => stays(Err(no), t),
     }
-    let e = t.ecbs;
-    if wait_bit_on(e, ecb) {
-        return stays(Verdict::Refuse(Refusal::WaitBitOn), t);
-    }
-    let next = ecbs::with_ecb(e, ecb, Ecb::zero());
-    let u = tables::put_ecbs(t, next);
-    goes(Reply::Done, u)
 }

@@ -10,9 +10,9 @@ use lib.ListN.{length}
 use borrow.Author.Tests.{eqb-true, eqb-false, ne_eqb}
 use Rattle.kinds.specs.declared.numbers.TaskNumber.{TaskNumber}
 use Rattle.kinds.specs.declared.tasks.Task.{Task}
-use Rattle.kinds.specs.declared.tasks.MaybeEcb.{MaybeEcb}
+use Rattle.std.specs.Prelude.{Option, Ok}
+use Rattle.kinds.specs.declared.numbers.EcbNumber.{EcbNumber}
 use Rattle.kinds.specs.declared.requests.Request.TheVariants.{Attach}
-use Rattle.kinds.specs.declared.replies.Verdict.TheVariants.{Go}
 use Rattle.rules.specs.Names.{Names}
 use Rattle.rules.specs.Family.{place, with_place, used, mother}
 use Rattle.rules.specs.Steps.{Step, with_tasks}
@@ -51,7 +51,7 @@ module _ (s : Step) (r : Reading) (e : Seen s r) (n : ℕ) (low : 0 < n) (high :
   }
 
 pub attach_done_lem : (s : Step) (r : Reading) → Seen s r → (l : Names) (c : TaskNumber) (lpmod : ℕ) (dpmod : ℤ)
-    (ecb : MaybeEcb) → attach_verdict s.tasks lpmod dpmod ecb ≡ Go
+    (ecb : Option EcbNumber) → attach_verdict s.tasks lpmod dpmod ecb ≡ Ok tt
     → Follows r (Attach c lpmod dpmod ecb) l (attach_done s c lpmod dpmod ecb)
 unfolding attach_done new_task
 attach_done_lem s r e l c lpmod dpmod ecb v =

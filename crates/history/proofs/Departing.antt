@@ -13,8 +13,8 @@ use Rattle.lists.specs.Pick.{pick}
 use Rattle.kinds.specs.Limits.{job_step_task, highest_task}
 use Rattle.kinds.specs.Tasks.{no_task, is_free, is_live, with_condition}
 use Rattle.kinds.specs.declared.tasks.Task.{Task}
-use Rattle.kinds.specs.declared.tasks.MaybeEcb.{MaybeEcb}
-use Rattle.kinds.specs.declared.tasks.MaybeEcb.TheVariants.{NoEcb, Named}
+use Rattle.std.specs.Prelude.{Option, Some, None}
+use Rattle.kinds.specs.declared.numbers.EcbNumber.{EcbNumber}
 use Rattle.kinds.specs.declared.tasks.Condition.TheVariants.{Ended}
 use Rattle.rules.specs.Control.{Entry}
 use Rattle.rules.specs.Family.{place, live, used, below}
@@ -101,12 +101,12 @@ module _ (s : Step) (h : Running s) (r : Reading) (e : Seen s r) (who : ℕ → 
       unfolding detached
       detached_seen = left_seen no_task refl (λ f. absurd (true≢false f))
 
-      posted_seen : (code : ℕ) (m : MaybeEcb)
+      posted_seen : (code : ℕ) (m : Option EcbNumber)
           → Seen (end_posted (left_by s (end_tasks s.tasks c (ended_place (place s.tasks c) m))) m code)
           (ended_in r who)
       unfolding detached
-      posted_seen code NoEcb = detached_seen
-      posted_seen code (Named n) =
+      posted_seen code None = detached_seen
+      posted_seen code (Some n) =
           let t = left_by s (end_tasks s.tasks c (with_condition (place s.tasks c) Ended)) in
           let v = left_seen (with_condition (place s.tasks c) Ended) refl (λ f. refl) in
           heirs_seen t (ended_in r who) v _ _ (posted_heirs t.tasks t.ecbs n.0 code) v.queue

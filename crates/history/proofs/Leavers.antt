@@ -13,8 +13,7 @@ use Rattle.kinds.specs.Limits.{job_step_task, highest_task}
 use Rattle.kinds.specs.declared.numbers.TaskNumber.{TaskNumber}
 use Rattle.kinds.specs.declared.tasks.Task.{Task}
 use Rattle.kinds.specs.declared.requests.Request.TheVariants.{Detach, End, Abend}
-use Rattle.kinds.specs.declared.replies.Gate.TheVariants.{Open}
-use Rattle.kinds.specs.declared.replies.Verdict.TheVariants.{Go}
+use Rattle.std.specs.Prelude.{Ok}
 use Rattle.rules.specs.Names.{Names}
 use Rattle.rules.specs.Family.{place, live, used, mother, below, is_subtask_of, has_subtasks}
 use Rattle.rules.specs.Steps.{Step}
@@ -64,7 +63,7 @@ module _ (s : Step) (r : Reading) (e : Seen s r) (l : Names) where
       ap (λ (b : Bool). eqb c job_step_task || b)
       (lone_below s.tasks c f (fits_length s.tasks h.tasks.fits) n v ∙ sym (told_below s h r e c u n v))
 
-  pub end_done_lem : Running s → (c : TaskNumber) (code : ℕ) → gate_of s c ≡ Open → end_verdict s.tasks c code ≡ Go
+  pub end_done_lem : Running s → (c : TaskNumber) (code : ℕ) → gate_of s c ≡ Ok tt → end_verdict s.tasks c code ≡ Ok tt
       → Follows r (End c code) l (end_done s c code)
   unfolding end_done
   end_done_lem h c code o v =
@@ -72,7 +71,7 @@ module _ (s : Step) (r : Reading) (e : Seen s r) (l : Names) where
       ended_seen s h r e (ends_alone c.0) c.0 u (alone_same h c.0 u (end_alone s.tasks c code v)) code
 
   -- ABEND
-  pub abend_done_lem : Running s → (c : TaskNumber) (code : ℕ) → gate_of s c ≡ Open → (step : Bool)
+  pub abend_done_lem : Running s → (c : TaskNumber) (code : ℕ) → gate_of s c ≡ Ok tt → (step : Bool)
       → Follows r (Abend c code step) l (abend_done s c code step)
   unfolding abend_done pick
   abend_done_lem h c code o true = over_seen s h r e (λ n. true || ends_with m c.0 n) code (λ n a. refl)
@@ -80,7 +79,7 @@ module _ (s : Step) (r : Reading) (e : Seen s r) (l : Names) where
       ended_seen s h r e (λ n. false || ends_with m c.0 n) c.0 (open_used s c o) (λ n a. refl) code
 
   -- DETACH
-  pub detach_done_lem : Running s → (c task : TaskNumber) → gate_of s c ≡ Open → detach_verdict s.tasks c task ≡ Go
+  pub detach_done_lem : Running s → (c task : TaskNumber) → gate_of s c ≡ Ok tt → detach_verdict s.tasks c task ≡ Ok tt
       → Follows r (Detach c task) l (detach_done s task)
   unfolding detach_done
   detach_done_lem h c task o v =

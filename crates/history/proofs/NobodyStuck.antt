@@ -9,8 +9,8 @@ use lib.ListN.{length}
 use borrow.Author.Tests.{le-ltb}
 use Rattle.lists.specs.Pick.{pick}
 use Rattle.kinds.specs.Replies.Besides.{TheCount}
-use Rattle.kinds.specs.declared.replies.Gate.{Gate}
-use Rattle.kinds.specs.declared.replies.Gate.TheVariants.{Open}
+use Rattle.std.specs.Prelude.{Ok}
+use Rattle.kinds.specs.Replies.{Gate}
 use Rattle.rules.specs.Steps.{Step, untouched, done_with}
 use Rattle.rules.specs.Codes.{written_on}
 use Rattle.rules.specs.Reading.{Turn, nothing, queue_read, one_at_a_time}
@@ -24,7 +24,7 @@ use Rattle.history.proofs.Demand.{demand_three}
 abbrev nobody : ItemList
 nobody = itemised stuck_item []
 
-opens : (t : Step) (space : ℕ) → t.over ≡ false → report_gate t nobody space ≡ Open
+opens : (t : Step) (space : ℕ) → t.over ≡ false → report_gate t nobody space ≡ Ok tt
 unfolding report_gate pick
 opens t space o = rw (o, le-ltb space 0 (omega arith))
 

@@ -4,10 +4,9 @@ use mathlib.Core.Bool.{Bool}
 use Prim.Native.Nat.{ℕ}
 use Rattle.kinds.specs.Tasks.{is_free}
 use Rattle.kinds.specs.declared.numbers.TaskNumber.{TaskNumber}
-use Rattle.kinds.specs.declared.numbers.MaybeAddress.{MaybeAddress}
-use Rattle.kinds.specs.declared.numbers.MaybeAddress.TheVariants.{At, Nowhere}
+use Rattle.std.specs.Prelude.{Option, Some, Ok, None}
+use Rattle.kinds.specs.declared.numbers.Address.{Address}
 use Rattle.kinds.specs.declared.requests.Request.TheVariants.{Wait, Getmain}
-use Rattle.kinds.specs.declared.replies.Gate.TheVariants.{Open}
 use Rattle.rules.specs.Names.{Names}
 use Rattle.rules.specs.Events.{Ecbs}
 use Rattle.rules.specs.Storage.{lowest}
@@ -24,7 +23,7 @@ use Rattle.history.proofs.Turns.{Follows, picked_follows}
 
 module _ (s : Step) (r : Reading) (e : Seen s r) (l : Names) where
   -- a caller that waits has the mother that it had
-  pub wait_done_lem : (c : TaskNumber) (es : Ecbs) (n : ℕ) → gate_of s c ≡ Open → Follows r (Wait c n) l (wait_done s c es n)
+  pub wait_done_lem : (c : TaskNumber) (es : Ecbs) (n : ℕ) → gate_of s c ≡ Ok tt → Follows r (Wait c n) l (wait_done s c es n)
   unfolding wait_done
   wait_done_lem c es n o =
       let u = open_used s c o in
@@ -38,7 +37,7 @@ module _ (s : Step) (r : Reading) (e : Seen s r) (l : Names) where
   unfolding getmain_done
   getmain_done_lem c bytes subpool conditional = one (lowest s.areas (wanted bytes subpool c.0))
     where
-      one : (p : MaybeAddress)
+      one : (p : Option Address)
           → Follows r (Getmain c bytes subpool conditional) l (given s (wanted bytes subpool c.0) p)
-      one (At p) = idle_seen s r e _ (same_heirs s.tasks) refl
-      one Nowhere = same_seen s r e
+      one (Some p) = idle_seen s r e _ (same_heirs s.tasks) refl
+      one None = same_seen s r e

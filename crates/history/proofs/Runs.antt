@@ -11,9 +11,8 @@ use Rattle.kinds.specs.declared.requests.Request.{Request}
 use Rattle.kinds.specs.declared.requests.Request.TheVariants.{Attach, Detach, End, Abend, Enq, Deq, Wait, Post, Clear}
 use Rattle.kinds.specs.declared.requests.Request.TheVariants.{Getmain, Freemain, Dispatch}
 use Rattle.kinds.specs.declared.replies.Refusal.TheVariants.{OutOfRange}
-use Rattle.kinds.specs.declared.replies.Verdict.{Verdict}
-use Rattle.kinds.specs.declared.replies.Verdict.TheVariants.{Go}
-use Rattle.kinds.specs.declared.replies.Gate.TheVariants.{Open}
+use Rattle.std.specs.Prelude.{Ok}
+use Rattle.kinds.specs.Replies.{Verdict}
 use Rattle.rules.specs.Names.{Names}
 use Rattle.rules.specs.Events.{Ecbs}
 use Rattle.rules.specs.Family.{place, mother}
@@ -47,7 +46,7 @@ use Rattle.history.proofs.Attached.{attach_done_lem}
 module _ (s : Step) (r : Reading) (e : Seen s r) (h : Sound s) (l : Names) where
   -- a service leaves what its change leaves, where it is not refused and does not fail
   by : (q : Request) (c : TaskNumber) → caller_of q ≡ c.0 → (v : Verdict) (o : Outcome Step)
-      → (gate_of s c ≡ Open → Running s → v ≡ Go → Follows r q l o)
+      → (gate_of s c ≡ Ok tt → Running s → v ≡ Ok tt → Follows r q l o)
       → Follows r q l (through (gate_of s c) s (settled v s c o))
   by q c i v o k = service_follows s r e q l c i v o h k
 

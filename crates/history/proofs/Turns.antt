@@ -11,10 +11,9 @@ use Rattle.kinds.specs.declared.replies.Refusal.TheVariants.{Unsound, OutOfRange
 use Rattle.kinds.specs.declared.replies.Refusal.TheVariants.{NoEntryFree, NoTaskFree, NoAreaFree, StepOver, WaitBitOn}
 use Rattle.kinds.specs.declared.replies.Refusal.TheVariants.{SystemName}
 use Rattle.kinds.specs.declared.replies.Fault.{Fault}
-use Rattle.kinds.specs.declared.replies.Gate.{Gate}
-use Rattle.kinds.specs.declared.replies.Gate.TheVariants.{Open, Shut}
-use Rattle.kinds.specs.declared.replies.Verdict.{Verdict}
-use Rattle.kinds.specs.declared.replies.Verdict.TheVariants.{Go, Refuse, Fail}
+use Rattle.std.specs.Prelude.{Ok, Err}
+use Rattle.kinds.specs.Replies.{Verdict, Gate}
+use Rattle.kinds.specs.declared.replies.No.TheVariants.{Refuse, Fail}
 use Rattle.rules.specs.Names.{Names}
 use Rattle.rules.specs.Family.{used}
 use Rattle.rules.specs.Steps.{Step, Outcome, refused}
@@ -60,10 +59,10 @@ module _ (s : Step) (r : Reading) (e : Seen s r) (q : Request) (l : Names) where
   refused_follows SystemName = same_seen s r e
 
   -- a shut gate refuses
-  pub through_follows : (g : Gate) (o : Outcome Step) → (g ≡ Open → Follows r q l o) → Follows r q l (through g s o)
+  pub through_follows : (g : Gate) (o : Outcome Step) → (g ≡ Ok tt → Follows r q l o) → Follows r q l (through g s o)
   unfolding through
-  through_follows Open o k = k refl
-  through_follows (Shut why) o k = refused_follows why
+  through_follows (Ok _) o k = k refl
+  through_follows (Err why) o k = refused_follows why
 
   module _ (c : TaskNumber) (called : caller_of q ≡ c.0) where
     -- a program error is the end of the caller
@@ -76,17 +75,17 @@ module _ (s : Step) (r : Reading) (e : Seen s r) (q : Request) (l : Names) where
       failing_follows what =
           rw (fault_effect r (told q l (failing what s c)) what refl) (gone (fault_number what))
 
-    settled_follows : (v : Verdict) (o : Outcome Step) → Sound s → gate_of s c ≡ Open → (v ≡ Go → Follows r q l o)
+    settled_follows : (v : Verdict) (o : Outcome Step) → Sound s → gate_of s c ≡ Ok tt → (v ≡ Ok tt → Follows r q l o)
         → Follows r q l (settled v s c o)
     unfolding settled
-    settled_follows Go o h g k = k refl
-    settled_follows (Refuse why) o h g k = refused_follows why
-    settled_follows (Fail what) o h g k =
+    settled_follows (Ok _) o h g k = k refl
+    settled_follows (Err (Refuse why)) o h g k = refused_follows why
+    settled_follows (Err (Fail what)) o h g k =
         failing_follows (running_parts s h (open_running s c g)) (open_used s c g) what
 
     -- so a service is followed if its change is
     pub service_follows : (v : Verdict) (o : Outcome Step) → Sound s
-        → (gate_of s c ≡ Open → Running s → v ≡ Go → Follows r q l o)
+        → (gate_of s c ≡ Ok tt → Running s → v ≡ Ok tt → Follows r q l o)
         → Follows r q l (through (gate_of s c) s (settled v s c o))
     service_follows v o h k =
         through_follows (gate_of s c) _ (λ g. settled_follows v o h g (k g (running_parts s h (open_running s c g))))

@@ -1,6 +1,6 @@
 -- RUNS TO LOOK AT: requests from a fresh step, and what a service makes of them.
 use Rattle.std.specs.Prelude.{ℕ, true, List, [], ◌∷◌, map, pos}
-use Rattle.kinds.specs.declared.tasks.MaybeEcb.TheVariants.{NoEcb}
+use Rattle.std.specs.Prelude.{None as NoEcb}
 use Rattle.kinds.specs.declared.requests.Ret.TheVariants.{None, Have, Chng}
 use Rattle.kinds.specs.declared.requests.DeqRet.TheVariants.{None as DeqNone}
 use Rattle.rules.specs.Names.{Resource}

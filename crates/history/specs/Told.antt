@@ -5,7 +5,8 @@ use Rattle.lists.specs.Lists.{some}
 use Rattle.kinds.specs.Limits.{job_step_task, highest_task}
 use Rattle.kinds.specs.Replies.{fault_number}
 use Rattle.kinds.specs.declared.numbers.TaskNumber.{TaskNumber}
-use Rattle.kinds.specs.declared.tasks.MaybeEcb.{MaybeEcb}
+use Rattle.std.specs.Prelude.{Option}
+use Rattle.kinds.specs.declared.numbers.EcbNumber.{EcbNumber}
 use Rattle.kinds.specs.declared.requests.Request.TheVariants.{Attach, Detach, End, Abend, Enq, Deq}
 use Rattle.kinds.specs.declared.requests.Ret.{Ret}
 use Rattle.kinds.specs.declared.requests.Ret.TheVariants.{None, Use, Have}
@@ -39,7 +40,7 @@ task t = record { 0 = t }
 
 -- an ATTACH by m, answered 0 with c besides
 pub data Attached (m c : ℕ) (u : Turn) : Type 0 where
-  attach : (lpmod : ℕ) (dpmod : ℤ) (ecb : MaybeEcb) → u.request ≡ Attach (task m) lpmod dpmod ecb → u.number ≡ 0
+  attach : (lpmod : ℕ) (dpmod : ℤ) (ecb : Option EcbNumber) → u.request ≡ Attach (task m) lpmod dpmod ecb → u.number ≡ 0
       → u.besides ≡ c → Attached m c u
 
 -- somebody attached c

@@ -12,12 +12,12 @@ use Rattle.kinds.specs.Replies.{value_of}
 use Rattle.kinds.specs.Replies.Besides.{TheAddress, TheNumber}
 use Rattle.kinds.specs.declared.replies.Refusal.TheVariants.{OutOfRange, NotLive, ShortArea, SystemName}
 use Rattle.kinds.specs.declared.replies.Fault.TheVariants.{DeqWithoutEntry}
-use Rattle.kinds.specs.declared.replies.Verdict.TheVariants.{Refuse}
+use Rattle.std.specs.Prelude.{Err}
+use Rattle.kinds.specs.declared.replies.No.TheVariants.{Refuse}
 use Rattle.kinds.specs.declared.requests.Ret.TheVariants.{None as Ret-None, Test as Ret-Test}
 use Rattle.kinds.specs.declared.requests.DeqRet.TheVariants.{None}
 use Rattle.rules.specs.Opened.{rules_open}
 use Rattle.rules.specs.Tests.{first_of}
-use Rattle.rules.specs.Tests.No.{refusal}
 use Rattle.rules.specs.Steps.{Step, Served, refused, failed, done, done_with, four, untouched, over_step}
 use Rattle.rules.specs.Fresh.{fresh_step}
 use Rattle.rules.specs.Getmain.{sound_request, wanted}
@@ -55,9 +55,9 @@ one_refuses_without_a_test d = neither (d.goes (refl, (refl, (refl, (refl, tt)))
 pub one_101_before_102 : One (clear 2 64) (untouched [] (refused OutOfRange start)) → ⊥
 unfolding rules_open
 one_101_before_102 d =
-    let f : first_of (tests_of start (clear 2 64)) ≡ Refuse OutOfRange = decided _ (refusal OutOfRange)
-    (d.when (refusal OutOfRange) refl) in
-    let g : Refuse NotLive ≡ Refuse OutOfRange = f in
+    let f : first_of (tests_of start (clear 2 64)) ≡ Err (Refuse OutOfRange) = decided _ (Refuse OutOfRange)
+    (d.when (Refuse OutOfRange) refl) in
+    let g : Err (Refuse NotLive) ≡ Err (Refuse OutOfRange) = f in
     let z : ◌≡◌ {A = ℕ} 0 1 = cc in
     omega arith
 
@@ -65,9 +65,9 @@ one_101_before_102 d =
 pub one_104_before_110 : One (enq 1 Ret-Test 0 (exc sysdsn ∷ [])) (untouched [] (refused ShortArea start)) → ⊥
 unfolding rules_open
 one_104_before_110 d =
-    let f : first_of (tests_of start (enq 1 Ret-Test 0 (exc sysdsn ∷ []))) ≡ Refuse ShortArea =
-    decided _ (refusal ShortArea) (d.when (refusal ShortArea) refl) in
-    let g : Refuse SystemName ≡ Refuse ShortArea = f in
+    let f : first_of (tests_of start (enq 1 Ret-Test 0 (exc sysdsn ∷ []))) ≡ Err (Refuse ShortArea) =
+    decided _ (Refuse ShortArea) (d.when (Refuse ShortArea) refl) in
+    let g : Err (Refuse SystemName) ≡ Err (Refuse ShortArea) = f in
     let z : ◌≡◌ {A = ℕ} 0 1 = cc in
     omega arith
 
@@ -75,7 +75,7 @@ one_104_before_110 d =
 pub one_always_0 : One (end 2 0) (untouched [] (done start)) → ⊥
 unfolding rules_open
 one_always_0 d =
-    let e : ◌≡◌ {A = ℕ} 0 102 = d.given (refusal NotLive) (decides (tests_of start (end 2 0)) (refusal NotLive) refl) in
+    let e : ◌≡◌ {A = ℕ} 0 102 = d.given (Refuse NotLive) (decides (tests_of start (end 2 0)) (Refuse NotLive) refl) in
     omega arith
 
 -- a refusal that ends the step

@@ -10,7 +10,7 @@ use Rattle.kinds.specs.Limits.{highest_task}
 use Rattle.kinds.specs.Tasks.{no_task, is_ready, in_resource_wait, waits, with_condition}
 use Rattle.kinds.specs.declared.tasks.Condition.{Condition}
 use Rattle.kinds.specs.declared.tasks.Condition.TheVariants.{Ready, ResourceWait, EcbWait, Ended}
-use Rattle.kinds.specs.declared.tasks.MaybeEcb.TheVariants.{NoEcb, Named}
+use Rattle.std.specs.Prelude.{Some, None}
 use Rattle.kinds.specs.declared.tasks.Task.{Task}
 use Rattle.rules.specs.Control.{Entry, of_task, has_entry, holding, lacks}
 use Rattle.rules.specs.Family.{condition_of, used}
@@ -32,7 +32,7 @@ use Rattle.impostors.specs.Wrong.{RuledOut, wrong_at}
 -- task 1 is ready, and its subtask 2, attached with ECB 3, in this condition
 abbrev tasks : Condition → TaskTable
 tasks k =
-    task_table_of (padded highest_task no_task (row_of Ready 0 200 150 NoEcb ∷ row_of k 1 200 150 (Named (ecb 3)) ∷ []))
+    task_table_of (padded highest_task no_task (row_of Ready 0 200 150 None ∷ row_of k 1 200 150 (Some (ecb 3)) ∷ []))
 
 -- the condition of 2
 abbrev second : TaskTable → Condition

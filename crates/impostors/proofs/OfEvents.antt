@@ -14,7 +14,7 @@ use Rattle.kinds.specs.declared.numbers.EcbNumber.{EcbNumber}
 use Rattle.kinds.specs.declared.numbers.TaskNumber.{TaskNumber}
 use Rattle.kinds.specs.declared.tasks.Condition.TheVariants.{EcbWait}
 use Rattle.kinds.specs.declared.replies.Refusal.TheVariants.{OutOfRange}
-use Rattle.kinds.specs.declared.replies.Verdict.{Verdict}
+use Rattle.kinds.specs.Replies.{Verdict}
 use Rattle.rules.specs.Alike.{same_condition}
 use Rattle.rules.specs.Family.{place, with_place, condition_of}
 use Rattle.rules.specs.Events.{ecb_at, wait_bit, posted}

@@ -13,7 +13,7 @@ use Rattle.kinds.specs.Ecbs.{no_ecb}
 use Rattle.kinds.specs.declared.ecbs.Ecb.{Ecb}
 use Rattle.kinds.specs.declared.ecbs.EcbList.{EcbList}
 use Rattle.kinds.specs.declared.numbers.EcbNumber.{EcbNumber}
-use Rattle.kinds.specs.declared.replies.Verdict.{Verdict}
+use Rattle.kinds.specs.Replies.{Verdict}
 use Rattle.kinds.specs.declared.replies.Refusal.TheVariants.{OutOfRange}
 use Rattle.kinds.specs.declared.replies.Fault.TheVariants.{CountTooLarge, AlreadyWaitedOn}
 use Rattle.rules.specs.Tests.{refuse, fail, first_of}

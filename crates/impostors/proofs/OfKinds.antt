@@ -17,18 +17,14 @@ use Rattle.kinds.specs.Replies.{fault_number, number_of, besides_in, besides_of}
 use Rattle.kinds.specs.Tasks.{is_free, is_live, is_ready, in_resource_wait, in_ecb_wait, waits, with_condition}
 use Rattle.kinds.specs.declared.names.Wanted.{Wanted}
 use Rattle.kinds.specs.declared.numbers.EcbNumber.{EcbNumber}
-use Rattle.kinds.specs.declared.numbers.TaskChecked.{TaskChecked}
-use Rattle.kinds.specs.declared.numbers.TaskChecked.TheVariants.{GoodTask, BadTask}
-use Rattle.kinds.specs.declared.numbers.EcbChecked.{EcbChecked}
-use Rattle.kinds.specs.declared.numbers.EcbChecked.TheVariants.{GoodEcb, BadEcb}
-use Rattle.kinds.specs.declared.numbers.MaybeAddress.{MaybeAddress}
-use Rattle.kinds.specs.declared.numbers.MaybeAddress.TheVariants.{At, Nowhere}
+use Rattle.std.specs.Prelude.{Option, Some, None}
+use Rattle.kinds.specs.declared.numbers.Address.{Address}
+use Rattle.kinds.specs.declared.numbers.TaskNumber.{TaskNumber}
 use Rattle.kinds.specs.declared.replies.Refusal.TheVariants.{NotLive}
 use Rattle.kinds.specs.declared.replies.Fault.TheVariants.{DuplicateEnq, AlreadyWaitedOn, NotSubtask}
 use Rattle.kinds.specs.declared.replies.Reply.TheVariants.{Attached, Got, Dispatched, Counted, Four, Refused}
 use Rattle.kinds.specs.declared.tasks.Condition.{Condition}
 use Rattle.kinds.specs.declared.tasks.Condition.TheVariants.{Free, Ready, ResourceWait, EcbWait, Ended}
-use Rattle.kinds.specs.declared.tasks.MaybeEcb.TheVariants.{NoEcb, Named}
 use Rattle.kinds.specs.declared.tasks.Task.{Task}
 use Rattle.rules.specs.SoundTasks.{has_ecb}
 use Rattle.rules.specs.Alike.{kind_of}
@@ -236,12 +232,12 @@ unfolding tables_open
 TaskNumber-is_good_one_above_passes = passes (task 33) refl refl refl
 
 -- a task number made where a test passes
-abbrev task_if : (ℕ → Bool) → ℕ → TaskChecked
-task_if good n = cond (good n) (GoodTask (task n)) BadTask
+abbrev task_if : (ℕ → Bool) → ℕ → Option TaskNumber
+task_if good n = cond (good n) (Some (task n)) None
 
-abbrev is_task : TaskChecked → Bool
-is_task (GoodTask n) = true
-is_task BadTask = false
+abbrev is_task : Option TaskNumber → Bool
+is_task (Some n) = true
+is_task None = false
 
 -- 0 makes a task number
 pub TaskNumber-new_zero_passes : RuledOut (λ k. fits_u32 ⊗ fits_end) TaskNumber-new.Pre TaskNumber-new.Post
@@ -287,12 +283,12 @@ unfolding tables_open
 EcbNumber-is_good_zero_refused = fails (ecb 0) refl refl refl
 
 -- an ECB number made where a test passes
-abbrev ecb_if : (ℕ → Bool) → ℕ → EcbChecked
-ecb_if good n = cond (good n) (GoodEcb (ecb n)) BadEcb
+abbrev ecb_if : (ℕ → Bool) → ℕ → Option EcbNumber
+ecb_if good n = cond (good n) (Some (ecb n)) None
 
-abbrev is_ecb : EcbChecked → Bool
-is_ecb (GoodEcb n) = true
-is_ecb BadEcb = false
+abbrev is_ecb : Option EcbNumber → Bool
+is_ecb (Some n) = true
+is_ecb None = false
 
 -- 63 makes none
 pub EcbNumber-new_highest_refused : RuledOut (λ k. fits_u32 ⊗ fits_end) EcbNumber-new.Pre EcbNumber-new.Post
@@ -323,12 +319,12 @@ pub Address-is_good_one_above_passes : RuledOut (λ k. fits-Address ⊗ fits_end
 Address-is_good_one_above_passes = passes (address 131072) refl refl refl
 
 -- an address made where a test passes
-abbrev address_if : (ℕ → Bool) → ℕ → MaybeAddress
-address_if good n = cond (good n) (At (address n)) Nowhere
+abbrev address_if : (ℕ → Bool) → ℕ → Option Address
+address_if good n = cond (good n) (Some (address n)) None
 
-abbrev is_address : MaybeAddress → Bool
-is_address (At n) = true
-is_address Nowhere = false
+abbrev is_address : Option Address → Bool
+is_address (Some n) = true
+is_address None = false
 
 -- 131,071 makes none
 pub Address-new_highest_refused : RuledOut (λ k. fits_u32 ⊗ fits_end) Address-new.Pre Address-new.Post
@@ -493,16 +489,16 @@ Condition-waits_ended = passes Ended refl refl refl
 
 -- a subtask of task 1, with an ECB
 abbrev sub : Task
-sub = record { condition = Ready; mother = task 1; limit = 200; dispatching = 150; ecb = Named (ecb 5) }
+sub = record { condition = Ready; mother = task 1; limit = 200; dispatching = 150; ecb = Some (ecb 5) }
 
 -- a free place is a subtask of the job step task
 pub Task-free_of_task_1 : RuledOut (λ k. fits_end) Task-free.Pre Task-free.Post
-    (λ k a. record { condition = Free; mother = task job_step_task; limit = 0; dispatching = 0; ecb = NoEcb })
+    (λ k a. record { condition = Free; mother = task job_step_task; limit = 0; dispatching = 0; ecb = None })
 Task-free_of_task_1 = wrong_at tt tt refl tt (λ x. eqb x.mother.0 1) refl refl
 
 -- a free place has ECB 0, in place of none
 pub Task-free_with_ecb_0 : RuledOut (λ k. fits_end) Task-free.Pre Task-free.Post
-    (λ k a. record { condition = Free; mother = task 0; limit = 0; dispatching = 0; ecb = Named (ecb 0) })
+    (λ k a. record { condition = Free; mother = task 0; limit = 0; dispatching = 0; ecb = Some (ecb 0) })
 Task-free_with_ecb_0 = wrong_at tt tt refl tt (λ x. has_ecb x.ecb) refl refl
 
 -- a task with other priorities; a task with no ECB
@@ -511,7 +507,7 @@ with_priorities l d x = record { condition = x.condition; mother = x.mother; lim
 
 abbrev without_ecb : Task → Task
 without_ecb x =
-    record { condition = x.condition; mother = x.mother; limit = x.limit; dispatching = x.dispatching; ecb = NoEcb }
+    record { condition = x.condition; mother = x.mother; limit = x.limit; dispatching = x.dispatching; ecb = None }
 
 -- limit and dispatching priority are exchanged
 pub Task-with_condition_priorities_exchanged :

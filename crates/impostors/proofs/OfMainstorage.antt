@@ -11,11 +11,10 @@ use Rattle.kinds.specs.Replies.Besides.{TheAddress}
 use Rattle.kinds.specs.declared.areas.Area.{Area}
 use Rattle.kinds.specs.declared.numbers.TaskNumber.{TaskNumber}
 use Rattle.kinds.specs.declared.numbers.Address.{Address}
-use Rattle.kinds.specs.declared.numbers.MaybeAddress.{MaybeAddress}
-use Rattle.kinds.specs.declared.numbers.MaybeAddress.TheVariants.{At, Nowhere}
+use Rattle.std.specs.Prelude.{Option, Some, None}
+use Rattle.kinds.specs.Replies.{Verdict}
 use Rattle.kinds.specs.declared.replies.Fault.TheVariants.{NoStorage, NoSuchArea}
 use Rattle.kinds.specs.declared.replies.Refusal.TheVariants.{OutOfRange}
-use Rattle.kinds.specs.declared.replies.Verdict.{Verdict}
 use Rattle.rules.specs.Tests.{refuse, fail, first_of}
 use Rattle.rules.specs.Steps.{Step, Outcome, with_areas, done, done_with}
 use Rattle.rules.specs.Storage.{start_of, past_end, rounded, owner_in, area_at, one_holder, bytes_apart, apart, permitted}
@@ -76,15 +75,15 @@ many : Packed (holding full)
 many = kept full (stored_packed full _ refl (omega arith))
 
 -- what is seen: the place is an address
-abbrev at : ℕ → MaybeAddress → Bool
-at n (At a) = eqb a.0 n
-at n Nowhere = false
+abbrev at : ℕ → Option Address → Bool
+at n (Some a) = eqb a.0 n
+at n None = false
 
 -- THE SEARCH THAT JUMPS, as the code's but for one thing: where a try that fails goes on, or how many tries there are
 abbrev Searched : Type 0
 Searched = Storage × (Area × Unit {0})
 
-abbrev search : Jump → ℕ → Searched → MaybeAddress
+abbrev search : Jump → ℕ → Searched → Option Address
 search next tries a = jumping next tries (areas_in a.0) a.1.0 0
 
 -- always on to a page start: 4,096, where 8 is free to the same holder
@@ -138,12 +137,12 @@ lowest_tries_without_areas =
     wrong_at tt (stored_areas (packed 32), (area 0 8 10 1, tt)) refl (omega arith) is_nowhere refl refl
 
 -- THE SEARCH OF ALL DOUBLEWORDS, by another test: the first of so many that passes, from s on
-abbrev first_from : (ℕ → Bool) → ℕ → ℕ → MaybeAddress
-first_from p zero s = Nowhere
-first_from p (suc tries) s = cond (p s) (At (address s)) (first_from p tries (s + doubleword))
+abbrev first_from : (ℕ → Bool) → ℕ → ℕ → Option Address
+first_from p zero s = None
+first_from p (suc tries) s = cond (p s) (Some (address s)) (first_from p tries (s + doubleword))
 
 -- the first of the region at which an area passes
-abbrev first_at : (Area → Bool) → Area → MaybeAddress
+abbrev first_at : (Area → Bool) → Area → Option Address
 first_at p want = first_from (λ s. p (placed_at want s)) (region / doubleword) 0
 
 -- an area past all others
@@ -203,7 +202,7 @@ asks l bytes conditional = (holding l, (task 1, (bytes, (10, (conditional, tt)))
 abbrev area_of : Asks → Area
 area_of a = wanted a.1.1.0 a.1.1.1.0 a.1.0.0
 
-abbrev place_of : Asks → MaybeAddress
+abbrev place_of : Asks → Option Address
 place_of a = lowest (areas_in a.0.storage) (area_of a)
 
 abbrev outcome_of : Asks → Outcome Step
@@ -218,9 +217,9 @@ abbrev answered : Asks → Outcome Step → Made
 answered a o = making (verdict_of a.1.1.1.1.0 a) a.0 o
 
 -- 0 where there is no room, and not 4: 131,072 bytes are asked for conditionally
-abbrev done_at : Step → Area → MaybeAddress → Outcome Step
-done_at s want (At p) = given s want (At p)
-done_at s want Nowhere = done_with (TheAddress (address 0)) s
+abbrev done_at : Step → Area → Option Address → Outcome Step
+done_at s want (Some p) = given s want (Some p)
+done_at s want None = done_with (TheAddress (address 0)) s
 
 pub getmain_served_done_with_no_room : RuledOut (λ k. fits-Asks) getmain_served.Pre getmain_served.Post
     (λ k a. answered a (done_at (step_of a.0) (area_of a) (place_of a)))
@@ -236,9 +235,9 @@ getmain_served_4_if_unconditional =
     wrong_at tt (asks held 131072 false) refl few (λ o. goes o.verdict) refl refl
 
 -- the area is put in at 0, whatever address is answered: 104
-abbrev at_zero : MaybeAddress → MaybeAddress
-at_zero (At p) = At (address 0)
-at_zero Nowhere = Nowhere
+abbrev at_zero : Option Address → Option Address
+at_zero (Some p) = Some (address 0)
+at_zero None = None
 
 pub getmain_served_put_in_at_0 : RuledOut (λ k. fits-Asks) getmain_served.Pre getmain_served.Post
     (λ k a. answered a (but (outcome_of a) (λ u. (given (step_of a.0) (area_of a) (at_zero (place_of a))).tables)))

@@ -20,9 +20,8 @@ use Rattle.kinds.specs.declared.requests.Ret.{Ret}
 use Rattle.kinds.specs.declared.requests.Ret.TheVariants.{None, Test, Use, Have, Chng}
 use Rattle.kinds.specs.declared.requests.DeqRet.{DeqRet}
 use Rattle.kinds.specs.declared.requests.DeqRet.TheVariants.{None as DeqNone, Have as DeqHave}
-use Rattle.kinds.specs.declared.replies.Gate.{Gate}
-use Rattle.kinds.specs.declared.replies.Gate.TheVariants.{Open, Shut}
-use Rattle.kinds.specs.declared.replies.Verdict.{Verdict}
+use Rattle.std.specs.Prelude.{Ok, Err}
+use Rattle.kinds.specs.Replies.{Verdict, Gate}
 use Rattle.kinds.specs.declared.replies.Refusal.TheVariants.{ShortArea, NoEntryFree}
 use Rattle.kinds.specs.declared.replies.Fault.TheVariants.{DuplicateEnq, DeqWithoutEntry}
 use Rattle.rules.specs.Names.{Resource, Ask, Names, same_name, legal, names_good, asks_system, names_of as resources}
@@ -127,8 +126,8 @@ write_zeros_behind =
 
 -- the number that a gate is shut by, 0 where it is open
 abbrev shut_by : Gate → ℕ
-shut_by Open = 0
-shut_by (Shut why) = refusal_number why
+shut_by (Ok _) = 0
+shut_by (Err why) = refusal_number why
 
 -- ENQ's gate by other tests of the RET kind and the names
 abbrev enq_gate : (Ret → Names → List Check) → Ret × (NameList × Unit {0}) → Gate

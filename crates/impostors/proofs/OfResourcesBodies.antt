@@ -15,8 +15,8 @@ use Rattle.kinds.specs.declared.requests.Ret.{Ret}
 use Rattle.kinds.specs.declared.requests.Ret.TheVariants.{None, Test, Use, Have, Chng}
 use Rattle.kinds.specs.declared.requests.DeqRet.{DeqRet}
 use Rattle.kinds.specs.declared.requests.DeqRet.TheVariants.{None as DeqNone, Have as DeqHave}
-use Rattle.kinds.specs.declared.replies.Gate.TheVariants.{Open}
-use Rattle.kinds.specs.declared.replies.Verdict.{Verdict}
+use Rattle.std.specs.Prelude.{Ok}
+use Rattle.kinds.specs.Replies.{Verdict}
 use Rattle.rules.specs.Names.{Names, same_name}
 use Rattle.rules.specs.Control.{Entry, has_entry}
 use Rattle.rules.specs.Codes.{all_zero, written_on}
@@ -192,7 +192,7 @@ enq_served_chng_leaves_it_shared =
 -- NONE writes codes: 2 asks for y, with an area of one byte
 pub enq_served_codes_under_none : RuledOutWith (λ k. fits-Given fits-Ret) enq_served.Pre enq_served.Post
     (λ k a. ends a (enq_says a) (enq_right a)
-    (codes_through Open (enq_says a) (area a) (written_on (enq_codes_of a) (area a))))
+    (codes_through (Ok tt) (enq_says a) (area a) (written_on (enq_codes_of a) (area a))))
 unfolding tables_open
 enq_served_codes_under_none =
     wrong_area ([], tt) (on owned 2 None (points_of (exc y_at ∷ [])) (238 ∷ [])) refl (owned_admits_2, refl)
@@ -309,7 +309,7 @@ deq_served_all_or_nothing =
 
 -- the codes are found after the entries have gone: task 1 gives x back by HAVE, and the code is 8
 pub deq_served_codes_after_the_release : RuledOutWith (λ k. fits-Given fits-DeqRet) deq_served.Pre deq_served.Post
-    (λ k a. ends a (deq_says a) (deq_right a) (codes_through Open (deq_says a) (area a)
+    (λ k a. ends a (deq_says a) (deq_right a) (codes_through (Ok tt) (deq_says a) (area a)
     (deq_written (deq_right a).tables.queue (caller a) (ret a) (names a) (area a))))
 unfolding tables_open
 deq_served_codes_after_the_release =

@@ -20,10 +20,11 @@ use Rattle.kinds.specs.declared.numbers.TaskNumber.{TaskNumber}
 use Rattle.kinds.specs.declared.numbers.EcbNumber.{EcbNumber}
 use Rattle.kinds.specs.declared.numbers.Address.{Address}
 use Rattle.kinds.specs.declared.areas.Area.{Area}
-use Rattle.kinds.specs.declared.tasks.MaybeEcb.{MaybeEcb}
+use Rattle.std.specs.Prelude.{Option, Ok, Err}
+use Rattle.std.specs.Prelude.{None as NoEcb}
+use Rattle.kinds.specs.Replies.{Verdict, Gate}
 use Rattle.kinds.specs.declared.names.NameList.{NameList}
 use Rattle.kinds.specs.declared.ecbs.EcbList.{EcbList}
-use Rattle.kinds.specs.declared.tasks.MaybeEcb.TheVariants.{NoEcb}
 use Rattle.kinds.specs.declared.requests.Request.{Request}
 use Rattle.kinds.specs.declared.requests.Request.TheVariants.{Attach, End, Enq, Getmain}
 use Rattle.kinds.specs.declared.requests.Ret.{Ret}
@@ -32,9 +33,6 @@ use Rattle.kinds.specs.declared.requests.DeqRet.{DeqRet}
 use Rattle.kinds.specs.declared.requests.DeqRet.TheVariants.{None as DeqNone, Have as DeqHave}
 use Rattle.kinds.specs.declared.replies.Refusal.TheVariants.{OutOfRange}
 use Rattle.kinds.specs.declared.replies.Fault.TheVariants.{NotSubtask, NoSuchArea}
-use Rattle.kinds.specs.declared.replies.Verdict.{Verdict}
-use Rattle.kinds.specs.declared.replies.Gate.{Gate}
-use Rattle.kinds.specs.declared.replies.Gate.TheVariants.{Open, Shut}
 use Rattle.names.specs.Named.{names_in}
 use Rattle.ecbs.specs.Blocks.{ecbs_in}
 use Rattle.kinds.specs.declared.replies.Reply.TheVariants.{Refused}
@@ -140,7 +138,7 @@ runs n t = is_ready (condition_of t.all.tasks.places n)
 
 -- WHAT IS GIVEN to the services of many parameters, and that it fits
 abbrev Attaches : Type 0
-Attaches = Tables × (TaskNumber × (ℕ × (ℤ × (MaybeEcb × Unit {0}))))
+Attaches = Tables × (TaskNumber × (ℕ × (ℤ × ((Option EcbNumber) × Unit {0}))))
 
 abbrev fits-Attaches : Attaches → Bool
 fits-Attaches = fits-Tables ⊗ fits-TaskNumber ⊗ fits_u16 ⊗ fits_i16 ⊗ fits-MaybeEcb ⊗ fits_end
@@ -1020,8 +1018,8 @@ abbrev with_end : List ℕ → List ℕ → List ℕ
 with_end bytes area = take (length area) (written_on (bytes ++ (0 ∷ [])) area)
 
 abbrev ended_by : Gate → Step → ItemList → List ℕ → Served Step
-ended_by (Shut why) s r area = untouched area (refused why s)
-ended_by Open s r area = record { outcome = done_with (TheCount r.items) s; codes = with_end r.bytes area }
+ended_by (Err why) s r area = untouched area (refused why s)
+ended_by (Ok _) s r area = record { outcome = done_with (TheCount r.items) s; codes = with_end r.bytes area }
 
 abbrev with_byte_behind : Step → List ℕ → Served Step
 with_byte_behind s area = ended_by (report_gate s (stuck_list s.queue) (length area)) s (stuck_list s.queue) area

@@ -11,9 +11,9 @@ use Rattle.kinds.specs.Limits.{highest_task}
 use Rattle.kinds.specs.Tasks.{no_task, is_live, in_resource_wait}
 use Rattle.kinds.specs.declared.numbers.TaskNumber.{TaskNumber}
 use Rattle.kinds.specs.declared.tasks.Task.{Task}
-use Rattle.kinds.specs.declared.tasks.MaybeEcb.{MaybeEcb}
-use Rattle.kinds.specs.declared.tasks.MaybeEcb.TheVariants.{NoEcb}
-use Rattle.kinds.specs.declared.replies.Verdict.{Verdict}
+use Rattle.std.specs.Prelude.{Option, None}
+use Rattle.kinds.specs.Replies.{Verdict}
+use Rattle.kinds.specs.declared.numbers.EcbNumber.{EcbNumber}
 use Rattle.kinds.specs.declared.replies.Refusal.TheVariants.{OutOfRange, NoTaskFree}
 use Rattle.kinds.specs.declared.replies.Fault.TheVariants.{HasSubtasks, NotSubtask}
 use Rattle.rules.specs.Tests.{refuse, fail, first_of}
@@ -59,13 +59,13 @@ one_ended = tasks (first ∷ ready 1 ∷ ended 2 ∷ [])
 
 -- ATTACH: task 1 of a fresh step, 200/150, with LPMOD 30 and a DPMOD
 abbrev Asks : Type 0
-Asks = AllTables × (TaskNumber × (ℕ × (ℤ × (MaybeEcb × Unit {0}))))
+Asks = AllTables × (TaskNumber × (ℕ × (ℤ × ((Option EcbNumber) × Unit {0}))))
 
 abbrev fits-Asks : Asks → Bool
 fits-Asks = fits-AllTables ⊗ fits-TaskNumber ⊗ fits_u16 ⊗ fits_i16 ⊗ fits-MaybeEcb ⊗ fits_end
 
 abbrev asks : ℕ → Asks
-asks dpmod = (tables_of start, (task 1, (30, (pos dpmod, (NoEcb, tt)))))
+asks dpmod = (tables_of start, (task 1, (30, (pos dpmod, (None, tt)))))
 
 -- what is made by this verdict, with this LPMOD
 abbrev attached_by : Verdict → ℕ → Asks → Made
@@ -111,7 +111,7 @@ pub attach_served_106_before_101 : RuledOut (λ k. fits-Asks) attach_served.Pre 
     (λ k a. attached_by (full_first a) a.1.1.0 a)
 unfolding tables_open
 attach_served_106_before_101 =
-    wrong_at tt (all_used, (task 1, (256, (pos 0, (NoEcb, tt))))) refl full_admits
+    wrong_at tt (all_used, (task 1, (256, (pos 0, (None, tt))))) refl full_admits
     (λ o. eqb (verdict_number o.verdict) 106) refl refl
 
 -- the number of the new task is told as an address: 2

@@ -8,7 +8,8 @@ use Rattle.lists.specs.Lists.{none}
 use Rattle.kinds.specs.Replies.{number_of}
 use Rattle.kinds.specs.declared.replies.Refusal.TheVariants.{OutOfRange}
 use Rattle.kinds.specs.declared.replies.Reply.TheVariants.{Done, Four}
-use Rattle.kinds.specs.declared.replies.Verdict.TheVariants.{Go, Refuse}
+use Rattle.std.specs.Prelude.{Ok, Err}
+use Rattle.kinds.specs.declared.replies.No.TheVariants.{Refuse}
 use Rattle.rules.specs.Events.{ecb_at}
 use Rattle.rules.specs.Family.{live}
 use Rattle.rules.specs.Steps.{over_step}
@@ -122,38 +123,38 @@ put_storage_and_fresh_ecbs =
 
 -- the service is refused
 pub goes_by_a_refusal : RuledOut (λ k. fits-Reply ⊗ fits-AllTables ⊗ fits_end) goes.Pre goes.Post
-    (λ k a. record { verdict = Refuse OutOfRange; reply = a.0; tables = a.1.0 })
+    (λ k a. record { verdict = Err (Refuse OutOfRange); reply = a.0; tables = a.1.0 })
 unfolding tables_open
 goes_by_a_refusal = wrong_at tt (Done, (fresh, tt)) refl tt (λ r. not (goes_on r.verdict)) refl refl
 
 -- 0 is answered, whatever the reply: 4
 pub goes_answers_0 : RuledOut (λ k. fits-Reply ⊗ fits-AllTables ⊗ fits_end) goes.Pre goes.Post
-    (λ k a. record { verdict = Go; reply = Done; tables = a.1.0 })
+    (λ k a. record { verdict = Ok tt; reply = Done; tables = a.1.0 })
 unfolding tables_open
 goes_answers_0 = wrong_at tt (Four, (fresh, tt)) refl tt (λ r. eqb (number_of r.reply) 0) refl refl
 
 -- the tables are those of a fresh step: 2 is no task
 pub goes_with_fresh_tables : RuledOut (λ k. fits-Reply ⊗ fits-AllTables ⊗ fits_end) goes.Pre goes.Post
-    (λ k a. record { verdict = Go; reply = a.0; tables = fresh })
+    (λ k a. record { verdict = Ok tt; reply = a.0; tables = fresh })
 unfolding tables_open
 goes_with_fresh_tables =
     wrong_at tt (Done, (with_entry, tt)) refl tt (λ r. not (live r.tables.tasks.places 2)) refl refl
 
 -- it goes on, whatever the verdict: 101
 pub stays_goes_on : RuledOut (λ k. fits-Verdict ⊗ fits-AllTables ⊗ fits_end) stays.Pre stays.Post
-    (λ k a. record { verdict = Go; reply = Done; tables = a.1.0 })
+    (λ k a. record { verdict = Ok tt; reply = Done; tables = a.1.0 })
 unfolding tables_open
-stays_goes_on = wrong_at tt (Refuse OutOfRange, (fresh, tt)) refl tt (λ r. goes_on r.verdict) refl refl
+stays_goes_on = wrong_at tt (Err (Refuse OutOfRange), (fresh, tt)) refl tt (λ r. goes_on r.verdict) refl refl
 
 -- the reply beside a refusal is 4
 pub stays_answers_4 : RuledOut (λ k. fits-Verdict ⊗ fits-AllTables ⊗ fits_end) stays.Pre stays.Post
     (λ k a. record { verdict = a.0; reply = Four; tables = a.1.0 })
 unfolding tables_open
-stays_answers_4 = wrong_at tt (Refuse OutOfRange, (fresh, tt)) refl tt (λ r. eqb (number_of r.reply) 4) refl refl
+stays_answers_4 = wrong_at tt (Err (Refuse OutOfRange), (fresh, tt)) refl tt (λ r. eqb (number_of r.reply) 4) refl refl
 
 -- a refusal leaves a fresh step: 2 is no task
 pub stays_with_fresh_tables : RuledOut (λ k. fits-Verdict ⊗ fits-AllTables ⊗ fits_end) stays.Pre stays.Post
     (λ k a. record { verdict = a.0; reply = Done; tables = fresh })
 unfolding tables_open
 stays_with_fresh_tables =
-    wrong_at tt (Refuse OutOfRange, (with_entry, tt)) refl tt (λ r. not (live r.tables.tasks.places 2)) refl refl
+    wrong_at tt (Err (Refuse OutOfRange), (with_entry, tt)) refl tt (λ r. not (live r.tables.tasks.places 2)) refl refl

@@ -8,9 +8,9 @@ use Rattle.kinds.specs.Limits.{job_step_task}
 use Rattle.kinds.specs.Tasks.{no_task, is_free, is_live, in_resource_wait}
 use Rattle.kinds.specs.declared.tasks.Task.{Task}
 use Rattle.kinds.specs.declared.tasks.Condition.{Condition}
-use Rattle.kinds.specs.declared.tasks.MaybeEcb.{MaybeEcb}
+use Rattle.std.specs.Prelude.{Option, Ok}
+use Rattle.kinds.specs.declared.numbers.EcbNumber.{EcbNumber}
 use Rattle.kinds.specs.declared.numbers.TaskNumber.{TaskNumber}
-use Rattle.kinds.specs.declared.replies.Gate.TheVariants.{Open}
 use Rattle.rules.specs.Steps.{Step, with_tasks, with_queue, with_state, over_step}
 use Rattle.rules.specs.Family.{place, with_place, condition_of}
 use Rattle.rules.specs.Events.{ecb_at}
@@ -42,7 +42,7 @@ abbrev pub one_left : Step
 one_left = after start undetached
 
 -- what an ending asks: the tables are sound, and the caller is live and does not wait
-ends : (s : Step) (c : ℕ) → sound_tables (tables_of s) ≡ true → gate_of (step_of (tables_of s)) (task c) ≡ Open
+ends : (s : Step) (c : ℕ) → sound_tables (tables_of s) ≡ true → gate_of (step_of (tables_of s)) (task c) ≡ Ok tt
     → Admitted (tables_of s) (task c)
 ends s c h g = record { sound = h; gate = g }
 
@@ -117,7 +117,7 @@ abbrev pub left_waiting : Step → ℕ → Task → Step
 left_waiting s c y = with_tasks (left_with s c y) (end_tasks s.tasks c y)
 
 -- task c's ECB, and the place that it leaves
-abbrev ecb_of : Step → ℕ → MaybeEcb
+abbrev ecb_of : Step → ℕ → Option EcbNumber
 ecb_of s c = (place s.tasks c).ecb
 
 abbrev place_left : Step → ℕ → Task

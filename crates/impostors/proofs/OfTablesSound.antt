@@ -12,8 +12,8 @@ use Rattle.kinds.specs.Tasks.{in_resource_wait}
 use Rattle.kinds.specs.declared.tasks.Task.{Task}
 use Rattle.kinds.specs.declared.tasks.Condition.{Condition}
 use Rattle.kinds.specs.declared.tasks.Condition.TheVariants.{Free, Ready, EcbWait, Ended}
-use Rattle.kinds.specs.declared.tasks.MaybeEcb.{MaybeEcb}
-use Rattle.kinds.specs.declared.tasks.MaybeEcb.TheVariants.{NoEcb, Named}
+use Rattle.std.specs.Prelude.{Option, Some, None}
+use Rattle.kinds.specs.declared.numbers.EcbNumber.{EcbNumber}
 use Rattle.rules.specs.Control.{Entry}
 use Rattle.rules.specs.Steps.{Step, with_tasks, with_queue, with_ecbs, with_areas, with_state, over_step}
 use Rattle.rules.specs.Family.{with_place}
@@ -120,7 +120,7 @@ abbrev held : Step
 held = after start awaited
 
 -- with another place of task n, another ECB, entries, areas
-abbrev row : Step → ℕ → Condition → ℕ → ℕ → ℕ → MaybeEcb → Step
+abbrev row : Step → ℕ → Condition → ℕ → ℕ → ℕ → Option EcbNumber → Step
 row s n k mother limit dispatching e = with_tasks s (with_place s.tasks n (row_of k mother limit dispatching e))
 
 abbrev word : Step → ℕ → ℕ → Bool → ℕ → Step
@@ -146,32 +146,32 @@ left_over = record { areas = (stored_areas (area 0 8 5 1 ∷ [])).areas; count =
 pub sound_with_an_ecb_of_task_1 : RuledOut takes sound.Pre sound.Post (λ k a. judged (while_running 1) a)
 unfolding tables_open
 sound_with_an_ecb_of_task_1 =
-    wrong_at tt (given (row start 1 Ready 0 200 150 (Named (ecb 0)))) refl tt (λ b. b) refl refl
+    wrong_at tt (given (row start 1 Ready 0 200 150 (Some (ecb 0)))) refl tt (λ b. b) refl refl
 
 -- a mother need not be live: task 9 is 2's
 pub sound_with_a_mother_not_live : RuledOut takes sound.Pre sound.Post (λ k a. judged (while_running 2) a)
 unfolding tables_open
-sound_with_a_mother_not_live = wrong_at tt (given (row two 2 Ready 9 200 150 NoEcb)) refl tt (λ b. b) refl refl
+sound_with_a_mother_not_live = wrong_at tt (given (row two 2 Ready 9 200 150 None)) refl tt (λ b. b) refl refl
 
 -- dispatching may be above limit: 200/201
 pub sound_with_dispatching_above_limit : RuledOut takes sound.Pre sound.Post (λ k a. judged (while_running 3) a)
 unfolding tables_open
-sound_with_dispatching_above_limit = wrong_at tt (given (row two 2 Ready 1 200 201 NoEcb)) refl tt (λ b. b) refl refl
+sound_with_dispatching_above_limit = wrong_at tt (given (row two 2 Ready 1 200 201 None)) refl tt (λ b. b) refl refl
 
 -- a task may have been attached with ECB 64
 pub sound_with_ecb_64 : RuledOut takes sound.Pre sound.Post (λ k a. judged (while_running 4) a)
 unfolding tables_open
-sound_with_ecb_64 = wrong_at tt (given (row two 2 Ready 1 200 150 (Named (ecb 64)))) refl tt (λ b. b) refl refl
+sound_with_ecb_64 = wrong_at tt (given (row two 2 Ready 1 200 150 (Some (ecb 64)))) refl tt (λ b. b) refl refl
 
 -- an ended task need not have an ECB
 pub sound_with_an_ended_task_without_ecb : RuledOut takes sound.Pre sound.Post (λ k a. judged (while_running 5) a)
 unfolding tables_open
-sound_with_an_ended_task_without_ecb = wrong_at tt (given (row two 2 Ended 1 200 150 NoEcb)) refl tt (λ b. b) refl refl
+sound_with_an_ended_task_without_ecb = wrong_at tt (given (row two 2 Ended 1 200 150 None)) refl tt (λ b. b) refl refl
 
 -- a free place need not be zero: it has a limit
 pub sound_with_a_free_place_not_zero : RuledOut takes sound.Pre sound.Post (λ k a. judged (while_running 6) a)
 unfolding tables_open
-sound_with_a_free_place_not_zero = wrong_at tt (given (row two 3 Free 0 200 0 NoEcb)) refl tt (λ b. b) refl refl
+sound_with_a_free_place_not_zero = wrong_at tt (given (row two 3 Free 0 200 0 None)) refl tt (λ b. b) refl refl
 
 -- on entries and resource waits
 
@@ -190,7 +190,7 @@ sound_with_two_entries_for_a_name =
 pub sound_with_a_ready_task_that_lacks_control : RuledOut takes sound.Pre sound.Post (λ k a. judged (while_running 10) a)
 unfolding tables_open
 sound_with_a_ready_task_that_lacks_control =
-    wrong_at tt (given (row held 2 Ready 1 200 150 NoEcb)) refl tt (λ b. b) refl refl
+    wrong_at tt (given (row held 2 Ready 1 200 150 None)) refl tt (λ b. b) refl refl
 
 -- on ECBs and ECB waits
 
@@ -201,7 +201,7 @@ sound_with_a_waiter_that_is_ready = wrong_at tt (given (word two 5 1 false 0)) r
 
 -- 2 needs two posts, and waits on ECB 5 alone
 abbrev needy : Step
-needy = row (word two 5 2 false 0) 2 (EcbWait 2) 1 200 150 NoEcb
+needy = row (word two 5 2 false 0) 2 (EcbWait 2) 1 200 150 None
 
 passes_needy : judged (while_running 12) (given needy) ≡ true
 unfolding tables_open

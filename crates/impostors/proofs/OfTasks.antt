@@ -13,7 +13,7 @@ use Rattle.kinds.specs.Tasks.{no_task, is_free, is_live, is_ready}
 use Rattle.kinds.specs.declared.tasks.Task.{Task}
 use Rattle.kinds.specs.declared.tasks.Condition.{Condition}
 use Rattle.kinds.specs.declared.tasks.Condition.TheVariants.{Free, Ready}
-use Rattle.kinds.specs.declared.tasks.MaybeEcb.TheVariants.{NoEcb}
+use Rattle.std.specs.Prelude.{None}
 use Rattle.rules.specs.Table.{row_of}
 use Rattle.rules.specs.Family.{place, with_place, condition_of, live, used, direct_subtask, has_subtasks, below}
 use Rattle.laws.specs.Wiping.{in_use}
@@ -36,7 +36,7 @@ use Rattle.impostors.specs.Parts.{last_best, tasks, first, ready, waiting, ended
 
 -- a ready daughter of task 1 with these priorities
 abbrev prior : ℕ → ℕ → Task
-prior limit dispatching = row_of Ready 1 limit dispatching NoEcb
+prior limit dispatching = row_of Ready 1 limit dispatching None
 
 -- the number is the count of the tasks in use, and one more: with 1 and 3 in use it is 3 and not 2
 pub lowest_free_counts_the_tasks :
@@ -87,7 +87,7 @@ dispatched_by_the_limit = wrong_at tt (tasks (first ∷ prior 170 170 ∷ []), t
 -- the places are free and not zero: each has task 1 for its mother
 pub empty_with_mothers : RuledOut (λ k. fits_end) empty.Pre empty.Post
     (λ k a. task_table_of (replicate highest_task
-    (record { condition = Free; mother = task 1; limit = 0; dispatching = 0; ecb = NoEcb })))
+    (record { condition = Free; mother = task 1; limit = 0; dispatching = 0; ecb = None })))
 unfolding tables_open
 empty_with_mothers = wrong_at tt tt refl tt (λ f. eqb (place f.places 2).mother.0 1) refl refl
 

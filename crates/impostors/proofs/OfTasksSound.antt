@@ -11,8 +11,8 @@ use Rattle.kinds.specs.Ranges.{priority_good}
 use Rattle.kinds.specs.Tasks.{no_task, is_free, is_live}
 use Rattle.kinds.specs.declared.tasks.Condition.{Condition}
 use Rattle.kinds.specs.declared.tasks.Condition.TheVariants.{Free, Ready, Ended}
-use Rattle.kinds.specs.declared.tasks.MaybeEcb.{MaybeEcb}
-use Rattle.kinds.specs.declared.tasks.MaybeEcb.TheVariants.{NoEcb, Named}
+use Rattle.std.specs.Prelude.{Option, Some, None}
+use Rattle.kinds.specs.declared.numbers.EcbNumber.{EcbNumber}
 use Rattle.kinds.specs.declared.tasks.Task.{Task}
 use Rattle.rules.specs.Attach.{maybe_good}
 use Rattle.rules.specs.Family.{place, live, used, mother, below, chain}
@@ -38,7 +38,7 @@ use Rattle.impostors.specs.Parts.{tasks, under, first, ready}
 
 -- a place with these priorities
 abbrev ranked : Condition → ℕ → ℕ → Task
-ranked k limit dispatching = row_of k 0 limit dispatching NoEcb
+ranked k limit dispatching = row_of k 0 limit dispatching None
 
 -- a free place that still has an ECB
 abbrev free_with_ecb : Task
@@ -53,14 +53,14 @@ abbrev but_last : TaskTable → List Task
 but_last f = take (highest_task - 1) f.places
 
 -- an ECB up to a highest one, or none
-abbrev ecb_to : ℕ → MaybeEcb → Bool
-ecb_to highest NoEcb = true
-ecb_to highest (Named e) = leb e.0 highest
+abbrev ecb_to : ℕ → Option EcbNumber → Bool
+ecb_to highest None = true
+ecb_to highest (Some e) = leb e.0 highest
 
 -- a task needs an ECB
 pub ecb_good_none_refused : RuledOut (λ k. fits-MaybeEcb ⊗ fits_end) ecb_good.Pre ecb_good.Post
     (λ k a. has_ecb a.0 && maybe_good a.0)
-ecb_good_none_refused = wrong_at tt (NoEcb, tt) refl tt not refl refl
+ecb_good_none_refused = wrong_at tt (None, tt) refl tt not refl refl
 
 -- ECB 64 passes
 pub ecb_good_one_above_passes : RuledOut (λ k. fits-MaybeEcb ⊗ fits_end) ecb_good.Pre ecb_good.Post
@@ -102,13 +102,13 @@ job_step_good_with_ecb = wrong_at tt (tasks (under 0 Ready (ecb 5) ∷ []), tt) 
 pub job_step_good_with_mother : RuledOut (λ k. fits-TaskTable ⊗ fits_end) job_step_good.Pre job_step_good.Post
     (λ k a. live a.0.places job_step_task && ecbless a.0)
 unfolding tables_open
-job_step_good_with_mother = wrong_at tt (tasks (under 1 Ready NoEcb ∷ []), tt) refl tt (λ b. b) refl refl
+job_step_good_with_mother = wrong_at tt (tasks (under 1 Ready None ∷ []), tt) refl tt (λ b. b) refl refl
 
 -- task 1 may have ended
 pub job_step_good_ended : RuledOut (λ k. fits-TaskTable ⊗ fits_end) job_step_good.Pre job_step_good.Post
     (λ k a. used a.0.places job_step_task && (motherless a.0 && ecbless a.0))
 unfolding tables_open
-job_step_good_ended = wrong_at tt (tasks (under 0 Ended NoEcb ∷ []), tt) refl tt (λ b. b) refl refl
+job_step_good_ended = wrong_at tt (tasks (under 0 Ended None ∷ []), tt) refl tt (λ b. b) refl refl
 
 -- of every task in use but task 1, another rule than that on its mother
 abbrev of_others : (ℕ → Task → Bool) → TaskTable → Bool
@@ -119,14 +119,14 @@ pub mothers_good_ended_mother : RuledOut (λ k. fits-TaskTable ⊗ fits_end) mot
     (λ k a. of_others (λ n x. below a.0.places job_step_task n) a.0)
 unfolding tables_open
 mothers_good_ended_mother =
-    wrong_at tt (tasks (first ∷ under 1 Ended (ecb 5) ∷ under 2 Ready NoEcb ∷ []), tt) refl tt (λ b. b) refl refl
+    wrong_at tt (tasks (first ∷ under 1 Ended (ecb 5) ∷ under 2 Ready None ∷ []), tt) refl tt (λ b. b) refl refl
 
 -- the chain is not followed: 2 and 3 are each other's mother
 pub mothers_good_chain_not_followed : RuledOut (λ k. fits-TaskTable ⊗ fits_end) mothers_good.Pre mothers_good.Post
     (λ k a. of_others (λ n x. live a.0.places x.mother.0) a.0)
 unfolding tables_open
 mothers_good_chain_not_followed =
-    wrong_at tt (tasks (first ∷ under 3 Ready NoEcb ∷ under 2 Ready NoEcb ∷ []), tt) refl tt (λ b. b) refl refl
+    wrong_at tt (tasks (first ∷ under 3 Ready None ∷ under 2 Ready None ∷ []), tt) refl tt (λ b. b) refl refl
 
 -- the chain is left one task too early: each of 32 tasks is the daughter of the one before
 pub mothers_good_through_31_tasks : RuledOut (λ k. fits-TaskTable ⊗ fits_end) mothers_good.Pre mothers_good.Post
@@ -203,7 +203,7 @@ pub ended_tasks_good_task_32_overlooked :
     RuledOut (λ k. fits-TaskTable ⊗ fits_end) ended_tasks_good_fn.Pre ended_tasks_good_fn.Post
     (λ k a. ended_tasks_good (but_last a.0))
 unfolding tables_open
-ended_tasks_good_task_32_overlooked = wrong_at tt (lastly (under 1 Ended NoEcb), tt) refl tt (λ b. b) refl refl
+ended_tasks_good_task_32_overlooked = wrong_at tt (lastly (under 1 Ended None), tt) refl tt (λ b. b) refl refl
 
 -- the numbers of a place are zero
 abbrev zero_numbers : Task → Bool

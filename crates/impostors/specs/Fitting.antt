@@ -22,8 +22,8 @@ use Rattle.kinds.specs.declared.areas.Area.{Area}
 use Rattle.kinds.specs.declared.tasks.Task.{Task}
 use Rattle.kinds.specs.declared.tasks.Condition.{Condition}
 use Rattle.kinds.specs.declared.tasks.Condition.TheVariants.{Free, Ready, ResourceWait, EcbWait, Ended}
-use Rattle.kinds.specs.declared.tasks.MaybeEcb.{MaybeEcb}
-use Rattle.kinds.specs.declared.tasks.MaybeEcb.TheVariants.{NoEcb, Named}
+use Rattle.std.specs.Prelude.{Option, Some, None}
+use Rattle.kinds.specs.Replies.{Verdict}
 use Rattle.kinds.specs.declared.requests.Request.{Request}
 use Rattle.kinds.specs.declared.requests.Request.TheVariants.{Attach, Detach, End, Abend, Enq, Deq, Wait, Post, Clear}
 use Rattle.kinds.specs.declared.requests.Request.TheVariants.{Getmain, Freemain, Dispatch}
@@ -33,7 +33,6 @@ use Rattle.kinds.specs.declared.replies.Fault.{Fault}
 use Rattle.kinds.specs.declared.replies.Reply.{Reply}
 use Rattle.kinds.specs.declared.replies.Reply.TheVariants.{Done, Attached, Got, Dispatched, Counted, Four, Refused}
 use Rattle.kinds.specs.declared.replies.Reply.TheVariants.{Failed}
-use Rattle.kinds.specs.declared.replies.Verdict.{Verdict}
 use Rattle.namearea.specs.declared.area.NameArea.{NameArea}
 use Rattle.namearea.specs.declared.points.Points.{Points}
 use Rattle.tasks.specs.declared.TaskTable.{TaskTable}
@@ -136,9 +135,9 @@ fits-Condition ResourceWait = true
 fits-Condition (EcbWait n) = fits_u8 n
 fits-Condition Ended = true
 
-abbrev pub fits-MaybeEcb : MaybeEcb → Bool
-fits-MaybeEcb NoEcb = true
-fits-MaybeEcb (Named e) = fits-EcbNumber e
+abbrev pub fits-MaybeEcb : Option EcbNumber → Bool
+fits-MaybeEcb None = true
+fits-MaybeEcb (Some e) = fits-EcbNumber e
 
 abbrev pub fits-Task : Task → Bool
 fits-Task x =

@@ -2,7 +2,6 @@
 -- 01 and with the tables that keep a step.
 use Rattle.lists.specs.Once.{once_from}
 use Rattle.lists.specs.Tables.{padded}
-use Rattle.kinds.specs.Ranges.{task_checked, ecb_checked, address_checked}
 use Rattle.rules.specs.Opened.{rules_open}
 use Rattle.laws.specs.Waking.{wake_at}
 use Rattle.laws.specs.Wiping.{wipe_at}
@@ -30,7 +29,7 @@ use Rattle.services.specs.Kept.{soundb, answered, answered_with}
 use Rattle.services.specs.Serve.{served_of}
 
 unfoldable pub tables_open : Unit {0}
-unfolding rules_open once_from padded task_checked ecb_checked address_checked wake_at wipe_at shown spelling needed
+unfolding rules_open once_from padded wake_at wipe_at shown spelling needed
     offset_in name_at fits_at new_at scanned holds points_to new_names is_zero rest_zero packed_entries marked_by with_mark
     report_reply report_written flags_of all_set_but tally_from
     waited_by is_zero_area rest_zero_areas packed_areas bar_of next_at place_for wake_if codes_of looks_of signals_of sound_tables

@@ -20,10 +20,10 @@ use Rattle.kinds.specs.declared.ecbs.Ecb.{Ecb}
 use Rattle.kinds.specs.declared.tasks.Task.{Task}
 use Rattle.kinds.specs.declared.tasks.Condition.{Condition}
 use Rattle.kinds.specs.declared.tasks.Condition.TheVariants.{Ready, ResourceWait, EcbWait, Ended}
-use Rattle.kinds.specs.declared.tasks.MaybeEcb.{MaybeEcb}
-use Rattle.kinds.specs.declared.tasks.MaybeEcb.TheVariants.{NoEcb, Named}
-use Rattle.kinds.specs.declared.replies.Verdict.{Verdict}
-use Rattle.kinds.specs.declared.replies.Verdict.TheVariants.{Go, Refuse, Fail}
+use Rattle.std.specs.Prelude.{Option, Some, Ok, Err, None}
+use Rattle.kinds.specs.Replies.{Verdict}
+use Rattle.kinds.specs.declared.replies.No.TheVariants.{Refuse, Fail}
+use Rattle.kinds.specs.declared.numbers.EcbNumber.{EcbNumber}
 use Rattle.rules.specs.Control.{Entry}
 use Rattle.rules.specs.Enq.{entry_for}
 use Rattle.rules.specs.Dispatch.{no_better}
@@ -48,9 +48,9 @@ address n = record { 0 = n }
 
 -- the number that a verdict stands for, 0 where it is to go on
 abbrev pub verdict_number : Verdict → ℕ
-verdict_number Go = 0
-verdict_number (Refuse why) = refusal_number why
-verdict_number (Fail what) = fault_number what
+verdict_number (Ok _) = 0
+verdict_number (Err (Refuse why)) = refusal_number why
+verdict_number (Err (Fail what)) = fault_number what
 
 abbrev pub goes : Verdict → Bool
 goes v = eqb (verdict_number v) 0
@@ -64,26 +64,26 @@ abbrev pub tasks : List Task → TaskTable
 tasks l = task_table_of (padded highest_task no_task l)
 
 -- a task 200/150 of this mother, in this condition and with this ECB
-abbrev pub under : ℕ → Condition → MaybeEcb → Task
+abbrev pub under : ℕ → Condition → Option EcbNumber → Task
 under m k e = row_of k m 200 150 e
 
 -- task 1, which has no mother
 abbrev pub first : Task
-first = under 0 Ready NoEcb
+first = under 0 Ready None
 
 -- a task of this mother; one that waits for an entry's control; for so many posts
 abbrev pub ready : ℕ → Task
-ready m = under m Ready NoEcb
+ready m = under m Ready None
 
 abbrev pub held : ℕ → Task
-held m = under m ResourceWait NoEcb
+held m = under m ResourceWait None
 
 abbrev pub waiting : ℕ → ℕ → Task
-waiting m n = under m (EcbWait n) NoEcb
+waiting m n = under m (EcbWait n) None
 
 -- it was attached with ECB 5, has ended, and is not detached
 abbrev pub ended : ℕ → Task
-ended m = under m Ended (Named (ecb 5))
+ended m = under m Ended (Some (ecb 5))
 
 -- the highest number of the ready tasks that none is above, or 0
 abbrev last_from : List Task → ℕ → ℕ → List Task → ℕ

@@ -9,8 +9,8 @@ use Rattle.kinds.specs.declared.names.NameList.{NameList}
 use Rattle.kinds.specs.declared.names.Pointed.{Pointed}
 use Rattle.kinds.specs.declared.names.PointedList.{PointedList}
 use Rattle.kinds.specs.declared.ecbs.EcbList.{EcbList}
-use Rattle.kinds.specs.declared.tasks.MaybeEcb.{MaybeEcb}
-use Rattle.kinds.specs.declared.tasks.MaybeEcb.TheVariants.{NoEcb, Named}
+use Rattle.std.specs.Prelude.{Option, Some}
+use Rattle.std.specs.Prelude.{None as NoEcb}
 use Rattle.kinds.specs.declared.requests.Request.{Request}
 use Rattle.kinds.specs.declared.requests.Request.TheVariants.{Attach, End, Enq, Deq, Wait, Post, Getmain, Freemain}
 use Rattle.kinds.specs.declared.requests.Ret.{Ret}
@@ -79,7 +79,7 @@ pub record Asking : Type 0 where
 abbrev pub alone : Request → Asking
 alone r = record { request = r; names = names_of []; ecbs = ecbs_of []; area = [] }
 
-abbrev pub attach : ℕ → MaybeEcb → Asking
+abbrev pub attach : ℕ → Option EcbNumber → Asking
 attach c e = alone (Attach (task c) 0 (pos 0) e)
 
 abbrev pub daughter : ℕ → Asking
@@ -136,7 +136,7 @@ two_generations = daughter 1 ∷ daughter 2 ∷ []
 
 -- 2 has ECB 0
 abbrev pub with_ecb : List Asking
-with_ecb = attach 1 (Named (ecb 0)) ∷ []
+with_ecb = attach 1 (Some (ecb 0)) ∷ []
 
 -- 2 owns x
 abbrev pub daughter_owns : List Asking
@@ -192,18 +192,18 @@ shares_and_owns = daughter 1 ∷ enq 1 None 0 (shr x ∷ []) ∷ enq 2 None 0 (e
 
 -- 2, who has ECB 10, has a daughter 3; and 3 owns x, for which 4, a daughter of 1, waits
 abbrev pub mother_with_ecb : List Asking
-mother_with_ecb = attach 1 (Named (ecb 10)) ∷ daughter 2 ∷ []
+mother_with_ecb = attach 1 (Some (ecb 10)) ∷ daughter 2 ∷ []
 
 abbrev pub daughter_holds_back : List Asking
 daughter_holds_back =
-    attach 1 (Named (ecb 10)) ∷ daughter 2 ∷ daughter 1 ∷ enq 3 None 0 (exc x ∷ []) ∷ enq 4 None 0 (exc x ∷ []) ∷ []
+    attach 1 (Some (ecb 10)) ∷ daughter 2 ∷ daughter 1 ∷ enq 3 None 0 (exc x ∷ []) ∷ enq 4 None 0 (exc x ∷ []) ∷ []
 
 -- 2 has a daughter 3, who had ECB 11, has ended and is not detached; 2, who had ECB 10, is so herself
 abbrev pub undetached : List Asking
-undetached = daughter 1 ∷ attach 2 (Named (ecb 11)) ∷ alone (End (task 3) 0) ∷ []
+undetached = daughter 1 ∷ attach 2 (Some (ecb 11)) ∷ alone (End (task 3) 0) ∷ []
 
 abbrev pub ended_once : List Asking
-ended_once = attach 1 (Named (ecb 10)) ∷ alone (End (task 2) 0) ∷ []
+ended_once = attach 1 (Some (ecb 10)) ∷ alone (End (task 2) 0) ∷ []
 
 -- ECB 3 is complete with code 5
 abbrev pub posted_once : List Asking

@@ -5,12 +5,12 @@ use Rattle.lists.specs.Lists.{some, every, map_at}
 use Rattle.kinds.specs.Limits.{region, doubleword, most_areas}
 use Rattle.kinds.specs.Tasks.{with_condition, in_resource_wait, is_live}
 use Rattle.kinds.specs.declared.replies.Refusal.TheVariants.{OutOfRange, NoAreaFree}
-use Rattle.kinds.specs.declared.replies.Verdict.{Verdict}
+use Rattle.std.specs.Prelude.{Option, Some, None}
+use Rattle.kinds.specs.Replies.{Verdict}
+use Rattle.kinds.specs.declared.numbers.Address.{Address}
 use Rattle.kinds.specs.declared.replies.Fault.TheVariants.{NoStorage}
 use Rattle.names.specs.Named.{names_in}
 use Rattle.kinds.specs.declared.numbers.TaskNumber.{TaskNumber}
-use Rattle.kinds.specs.declared.numbers.MaybeAddress.{MaybeAddress}
-use Rattle.kinds.specs.declared.numbers.MaybeAddress.TheVariants.{At, Nowhere}
 use Rattle.kinds.specs.declared.areas.Area.{Area}
 use Rattle.kinds.specs.declared.tasks.Task.{Task}
 use Rattle.kinds.specs.declared.tasks.Condition.TheVariants.{ResourceWait}
@@ -87,13 +87,13 @@ replaces_code f g =
     (λ c bytes subpool conditional. f g) (f g) g.asking.request
 
 -- "Judging only the first page a new area touches": the lowest address by that measure is given
-abbrev lowest_at_first : ℕ → List Area → Area → ℕ → MaybeAddress
-lowest_at_first zero l a s = Nowhere
+abbrev lowest_at_first : ℕ → List Area → Area → ℕ → Option Address
+lowest_at_first zero l a s = None
 lowest_at_first (suc tries) l a s =
-    cond (leb (past_end (placed_at a s)) region && every (apart_at_first (placed_at a s)) l) (At (record { 0 = s }))
+    cond (leb (past_end (placed_at a s)) region && every (apart_at_first (placed_at a s)) l) (Some (record { 0 = s }))
     (lowest_at_first tries l a (s + doubleword))
 
-abbrev verdict_by : MaybeAddress → List Area → ℕ → ℕ → Bool → Verdict
+abbrev verdict_by : Option Address → List Area → ℕ → ℕ → Bool → Verdict
 verdict_by p l bytes subpool conditional =
     first_of
     (refuse OutOfRange (not (getmain_good bytes subpool))

@@ -7,7 +7,7 @@ use Rattle.kinds.specs.declared.numbers.TaskNumber.{TaskNumber}
 use Rattle.kinds.specs.declared.requests.Ret.{Ret}
 use Rattle.kinds.specs.declared.requests.Ret.TheVariants.{None, Test, Use, Have, Chng}
 use Rattle.kinds.specs.declared.requests.DeqRet.{DeqRet}
-use Rattle.kinds.specs.declared.replies.Verdict.{Verdict}
+use Rattle.kinds.specs.Replies.{Verdict}
 use Rattle.kinds.specs.declared.replies.Refusal.TheVariants.{OutOfRange, SystemName, ShortArea, NoEntryFree}
 use Rattle.kinds.specs.declared.replies.Fault.TheVariants.{DuplicateEnq, DeqWithoutEntry}
 use Rattle.rules.specs.Names.{Resource, is_system, Names, names_of, names_good, asks_system}

@@ -1,4 +1,5 @@
 // What is said on standard error where the system does not read or write.
+use crate::text::Unwritten;
 use arrayvec::ArrayString;
 use std::fmt::Write;
 use std::io::{Error, ErrorKind, Print, Stderr};
@@ -10,12 +11,12 @@ const LONGEST: usize = 256;
 const NUMBER: &str = " (os error ";
 
 // Whoever broke the pipe wants no more answers, so there is nothing to say.
-pub(crate) fn is_broken_pipe(e: Error) -> bool {
-    e.kind() == ErrorKind::BrokenPipe
-}
-
-pub(crate) fn unwritten(stderr: Stderr, e: Error) {
+pub(crate) fn unwritten(stderr: Stderr, e: Error) -> Unwritten {
+    if e.kind() == ErrorKind::BrokenPipe {
+        return Unwritten::Unwanted;
+    }
     fail(stderr, "run: the answers cannot be written", e);
+    Unwritten::Lost
 }
 
 pub(crate) fn unread(stderr: Stderr, e: Error) {
@@ -27,9 +28,6 @@ fn fail(stderr: Stderr, what: &str, e: Error) {
     let mut all = ArrayString::<LONGEST>::new();
     let _ = write!(all, "{e}");
     let text = all.as_str();
-    let why = match text.split_once(NUMBER) {
-        Some((before, _)) => before,
-        None => text,
-    };
+    let why = text.split_once(NUMBER).map_or(text, |(before, _)| before);
     let _ = stderr.println(format_args!("{what}: {why}"));
 }

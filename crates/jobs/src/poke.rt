@@ -1,4 +1,5 @@
-// A poke: one raw field of the tables is overwritten, or bytes of the name area.
+// A poke: one raw field of the tables is overwritten, or bytes of the name area. The fields of each table stand in the
+// order in which its row has them.
 #[derive(Clone, Copy)]
 pub(crate) enum TaskField {
     State,

@@ -1,26 +1,49 @@
-// Raw fields: the widest numbers that the tables keep, what a flag counts as, and how many bytes are in use.
-ghost use Rattle.std.specs.Prelude.{◌≤◌, length};
+// A place of a table as raw fields: a dump shows them, and a poke overwrites one and goes back to the place.
+ghost use Rattle.std.specs.Prelude.{◌*◌, ◌<◌, ◌^◌};
 
-pub(crate) const WIDEST_FLAG: u32 = 1;
-
+// The widest numbers that the tables keep in a byte and in two.
 pub(crate) const WIDEST_BYTE: u32 = u8::MAX as u32;
 
 pub(crate) const WIDEST_HALF: u32 = u16::MAX as u32;
 
-pub(crate) fn flag(b: bool) -> u32 {
-    if b { 1 } else { 0 }
+// The fields are numbers, in the order in which a line of the dump has them. What is generic in N requires that an
+// array of so many has a size.
+pub(crate) trait Row<const N: usize>: Copy {
+    fn raw(self) -> [u32; N];
+
+    // The place with these fields, where the table can hold it.
+    fn held(raw: [u32; N]) -> Option<Self>;
 }
 
-// The bytes up to the last that is not zero.
-pub(crate) fn used(bytes: &[u8]) -> usize
-    ensures { result ≤ length bytes.now }
+// A field of the place is not zero.
+pub(crate) fn is_used<const N: usize, R: Row<N>>(place: &R) -> bool
+    requires { N * 4 < 2 ^ 63 }
 {
-    let mut n = bytes.len();
-    while 0 < n {
-        if bytes[n - 1] != 0 {
-            return n;
-        }
-        n -= 1;
+    place.raw().iter().any(|n| *n != 0)
+}
+
+// One more than the highest place with a field that is not zero.
+pub(crate) fn used<const N: usize, R: Row<N>>(places: &[R]) -> usize
+    requires { N * 4 < 2 ^ 63 }
+{
+    places
+        .iter()
+        .rposition(is_used::<N, R>)
+        .map_or(0, |last| last + 1)
+}
+
+pub(crate) fn held_flag(n: u32) -> Option<bool> {
+    match n {
+        0 => Some(false),
+        1 => Some(true),
+        _ => None,
     }
-    0
+}
+
+pub(crate) fn held_byte(n: u32) -> Option<u8> {
+    u8::try_from(n).ok()
+}
+
+pub(crate) fn held_half(n: u32) -> Option<u16> {
+    u16::try_from(n).ok()
 }

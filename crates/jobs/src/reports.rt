@@ -2,16 +2,13 @@
 // to it, and a line is put for each. An item gives the place of an entry in the queue, which stays as it is, and the
 // entry where its name lies. A place that the queue does not have, which no service writes, has no line; a name that
 // the area does not have, which no sound tables show, has no bytes.
-ghost use Rattle.jobs.specs.Places.{Kept};
-
-use crate::lines::{put_field, put_hex_field};
-use crate::listing::UNWRITTEN;
+use crate::listing::{UNWRITTEN, answer};
 use crate::sizes::MOST_ROOM;
-use crate::text::{Out, put, put_byte, put_bytes_hex};
-use crate::{listing, number};
-use kinds::{Name, NameOffset, Slot};
-use queue::Queue;
+use crate::text::Out;
+use kinds::{Name, NameOffset, Reply, Slot};
 use services::Tables;
+use std::fmt;
+use std::fmt::Write;
 
 // The bytes of an item of the first report: task, place of the entry, partner.
 const STUCK_ITEM: usize = 3;
@@ -24,127 +21,77 @@ const STUCK_LIST: usize = STUCK_ITEM * MOST_ROOM;
 
 const QUEUES_LIST: usize = QUEUE_ITEM * MOST_ROOM;
 
-// A space and the name that lies there: eight bytes, a length byte, and as many as that says.
-fn put_name(names: &[u8], name: NameOffset, out: &mut Out, at: usize) -> usize
-    ensures { Kept at result }
-{
-    let start = name.0 as usize;
-    let middle = start + Name::MAJOR;
-    if names.len() <= middle {
-        return at;
+// A name's major and minor part: eight bytes, a length byte, and as many as that says.
+fn name_at(names: &[u8], name: NameOffset) -> Option<(&[u8], &[u8])> {
+    let (_, from) = names.split_at_checked(usize::from(name.0))?;
+    let (major, rest) = from.split_at_checked(Name::MAJOR)?;
+    let (n, rest) = rest.split_first()?;
+    let (minor, _) = rest.split_at_checked(usize::from(*n))?;
+    Some((major, minor))
+}
+
+// A space and the name that lies there.
+fn put_name(names: &[u8], name: NameOffset, out: &mut Out) -> fmt::Result {
+    match name_at(names, name) {
+        Some((major, minor)) => {
+            out.write_str(" ")?;
+            out.put_hex(major)?;
+            out.write_str(".")?;
+            out.put_hex(minor)
+        }
+        None => Ok(()),
     }
-    let from = middle + 1;
-    let n = names[middle];
-    let end = from + n as usize;
-    if names.len() < end {
-        return at;
-    }
-    let k = put_hex_field(out, at, &names[start..middle]);
-    let k = put_byte(out, k, b'.');
-    put_bytes_hex(out, k, &names[from..end])
 }
 
 // Who is stuck.
-pub(crate) fn stuck(t: Tables, room: u8, out: &mut Out, at: usize) -> usize
-    ensures { Kept at result }
-{
-    let length = STUCK_ITEM * room as usize;
+pub(crate) fn stuck(t: &Tables, room: u8, out: &mut Out) -> fmt::Result {
     let mut list = [UNWRITTEN; STUCK_LIST];
-    let a = t.stuck(&mut list[..length]);
-    let reply = a.reply;
-    let k = listing::answer(reply, out, at);
-    let count = number::byte(reply.besides());
-    put_stuck(t.all.queue, &t.names.bytes, list, count, out, k)
-}
-
-// The entry of an item is read here, so that the queue is not copied for each of them.
-fn put_stuck(
-    q: Queue,
-    names: &[u8],
-    list: [u8; STUCK_LIST],
-    count: u8,
-    out: &mut Out,
-    at: usize,
-) -> usize
-    ensures { Kept at result }
-{
-    let mut k = at;
-    let mut i: usize = 0;
-    while i < count as usize {
-        let item = STUCK_ITEM * i;
-        let place = list[item + 1] as usize;
-        if place < Slot::PLACES {
-            let x = q.slots[place];
-            k = put_stuck_item(names, list[item], x.name, list[item + 2], out, k);
+    let length = STUCK_ITEM * usize::from(room);
+    let reply = t.stuck(&mut list[..length]).reply;
+    answer(reply, &[], out)?;
+    let Reply::Counted(count) = reply else {
+        return Ok(());
+    };
+    for item in list.chunks_exact(STUCK_ITEM).take(usize::from(count)) {
+        if let &[task, place, partner] = item
+            && let Some(x) = t.all.queue.slots.get(usize::from(place))
+        {
+            put_stuck(&t.names.bytes, task, x, partner, out)?;
         }
-        i += 1;
     }
-    k
+    Ok(())
 }
 
 // `stuck TASK NAME PARTNER`.
-fn put_stuck_item(
-    names: &[u8],
-    task: u8,
-    name: NameOffset,
-    partner: u8,
-    out: &mut Out,
-    at: usize,
-) -> usize
-    ensures { Kept at result }
-{
-    let k = put(out, at, b"stuck");
-    let k = put_field(out, k, task as u32);
-    let k = put_name(names, name, out, k);
-    let k = put_field(out, k, partner as u32);
-    put_byte(out, k, b'\n')
+fn put_stuck(names: &[u8], task: u8, x: &Slot, partner: u8, out: &mut Out) -> fmt::Result {
+    write!(out, "stuck {task}")?;
+    put_name(names, x.name, out)?;
+    writeln!(out, " {partner}")
 }
 
 // Who stands in which queue.
-pub(crate) fn queues(t: Tables, room: u8, out: &mut Out, at: usize) -> usize
-    ensures { Kept at result }
-{
-    let length = QUEUE_ITEM * room as usize;
+pub(crate) fn queues(t: &Tables, room: u8, out: &mut Out) -> fmt::Result {
     let mut list = [UNWRITTEN; QUEUES_LIST];
-    let a = t.queues(&mut list[..length]);
-    let reply = a.reply;
-    let k = listing::answer(reply, out, at);
-    let count = number::byte(reply.besides());
-    put_queues(t.all.queue, &t.names.bytes, list, count, out, k)
-}
-
-fn put_queues(
-    q: Queue,
-    names: &[u8],
-    list: [u8; QUEUES_LIST],
-    count: u8,
-    out: &mut Out,
-    at: usize,
-) -> usize
-    ensures { Kept at result }
-{
-    let mut k = at;
-    let mut i: usize = 0;
-    while i < count as usize {
-        let item = QUEUE_ITEM * i;
-        let place = list[item] as usize;
-        if place < Slot::PLACES {
-            k = put_queue_item(names, q.slots[place], list[item + 1], out, k);
+    let length = QUEUE_ITEM * usize::from(room);
+    let reply = t.queues(&mut list[..length]).reply;
+    answer(reply, &[], out)?;
+    let Reply::Counted(count) = reply else {
+        return Ok(());
+    };
+    for item in list.chunks_exact(QUEUE_ITEM).take(usize::from(count)) {
+        if let &[place, owner] = item
+            && let Some(x) = t.all.queue.slots.get(usize::from(place))
+        {
+            put_queue(&t.names.bytes, x, owner, out)?;
         }
-        i += 1;
     }
-    k
+    Ok(())
 }
 
 // `queue NAME TASK own`, or `wait`.
-fn put_queue_item(names: &[u8], x: Slot, owner: u8, out: &mut Out, at: usize) -> usize
-    ensures { Kept at result }
-{
-    let k = put(out, at, b"queue");
-    let k = put_name(names, x.name, out, k);
-    let k = put_field(out, k, x.task.0 as u32);
-    if owner == 0 {
-        return put(out, k, b" wait\n");
-    }
-    put(out, k, b" own\n")
+fn put_queue(names: &[u8], x: &Slot, owner: u8, out: &mut Out) -> fmt::Result {
+    out.write_str("queue")?;
+    put_name(names, x.name, out)?;
+    let stands = if owner == 0 { "wait" } else { "own" };
+    writeln!(out, " {} {stands}", x.task.0)
 }

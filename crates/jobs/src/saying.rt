@@ -1,9 +1,7 @@
 // What is written for a line.
-ghost use Rattle.jobs.specs.Places.{Kept};
-
-use crate::text;
 use crate::text::Out;
-use itoa::Buffer;
+use std::fmt;
+use std::fmt::Write;
 
 #[derive(Clone, Copy)]
 pub(crate) enum Said {
@@ -13,23 +11,14 @@ pub(crate) enum Said {
     Ok,
 }
 
-// For line `number` of the script, behind what is in the block.
-pub(crate) fn say(said: Said, number: u64, out: &mut Out, at: usize) -> usize
-    ensures { Kept at result }
-{
-    match said {
-        Said::Nothing => at,
-        Said::Unreadable => mark(b"? ", number, out, at),
-        Said::NotHeld => mark(b"! ", number, out, at),
-        Said::Ok => text::put(out, at, b"ok\n"),
+impl Said {
+    // For line `number` of the script.
+    pub(crate) fn put(self, number: u64, out: &mut Out) -> fmt::Result {
+        match self {
+            Said::Nothing => Ok(()),
+            Said::Unreadable => writeln!(out, "? {number}"),
+            Said::NotHeld => writeln!(out, "! {number}"),
+            Said::Ok => out.write_str("ok\n"),
+        }
     }
-}
-
-fn mark(sign: &[u8], number: u64, out: &mut Out, at: usize) -> usize
-    ensures { Kept at result }
-{
-    let mut digits = Buffer::new();
-    let a = text::put(out, at, sign);
-    let b = text::put(out, a, digits.format(number).as_bytes());
-    text::put(out, b, b"\n")
 }

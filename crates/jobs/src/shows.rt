@@ -1,9 +1,8 @@
 // What a line shows of the tables: all of them, or a report. They stay as they are.
-ghost use Rattle.jobs.specs.Places.{Kept};
-
 use crate::text::Out;
 use crate::{listing, reports};
 use services::Tables;
+use std::fmt;
 
 #[derive(Clone, Copy)]
 pub(crate) enum Report {
@@ -19,23 +18,19 @@ pub(crate) enum Shows {
 }
 
 impl Shows {
-    pub(crate) fn put(self, t: Tables, out: &mut Out, at: usize) -> usize
-        ensures { Kept at result }
-    {
+    pub(crate) fn put(self, t: &Tables, out: &mut Out) -> fmt::Result {
         match self {
-            Shows::Tables => listing::dump(t, out, at),
-            Shows::Report { report, room } => report.put(t, room, out, at),
+            Shows::Tables => listing::dump(t, out),
+            Shows::Report { report, room } => report.put(t, room, out),
         }
     }
 }
 
 impl Report {
-    fn put(self, t: Tables, room: u8, out: &mut Out, at: usize) -> usize
-        ensures { Kept at result }
-    {
+    fn put(self, t: &Tables, room: u8, out: &mut Out) -> fmt::Result {
         match self {
-            Report::Stuck => reports::stuck(t, room, out, at),
-            Report::Queues => reports::queues(t, room, out, at),
+            Report::Stuck => reports::stuck(t, room, out),
+            Report::Queues => reports::queues(t, room, out),
         }
     }
 }

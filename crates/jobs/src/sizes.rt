@@ -17,16 +17,11 @@ pub(crate) const MOST_ROOM: usize = u8::MAX as usize;
 // A line with more names or ECBs is not readable.
 pub(crate) const MOST_LISTED: u32 = 20;
 
-// The numbers after CALLER.
-pub(crate) const MOST_FIELDS: usize = 3;
-
 // The digits of a number.
 pub(crate) const MOST_DIGITS: usize = 10;
 
-pub(crate) const HIGHEST_NUMBER: u64 = u32::MAX as u64;
-
 // A minor part's bytes as a line gives or says them; a name keeps fewer.
-pub(crate) const HIGHEST_LENGTH: u32 = 300;
+pub(crate) const HIGHEST_LENGTH: usize = 300;
 
 // The number of the last line that is read.
 pub(crate) const HIGHEST_LINE: u64 = u64::MAX - 1;
@@ -34,7 +29,7 @@ pub(crate) const HIGHEST_LINE: u64 = u64::MAX - 1;
 // The digits of a major part, and of a minor part that is given.
 pub(crate) const MAJOR_DIGITS: usize = 2 * Name::MAJOR;
 
-pub(crate) const MOST_GIVEN: usize = 2 * HIGHEST_LENGTH as usize;
+pub(crate) const MOST_GIVEN: usize = 2 * HIGHEST_LENGTH;
 
 // A line that pokes more bytes of the name area is not readable.
 pub(crate) const MOST_POKED: usize = 300;

@@ -1,14 +1,14 @@
 // What a line asks for. It is read whole before the tables come into it, so that only a line that asks for something of
 // them has them copied.
-ghost use Rattle.std.specs.Prelude.{◌≤◌, length};
+ghost use Rattle.std.specs.Prelude.{◌≤◌};
 ghost use Rattle.jobs.specs.Sizes.{most_codes};
 
-use crate::form::Form;
 use crate::poke::Poke;
 use crate::saying::Said;
 use crate::shows::Shows;
-use crate::sizes::MOST_CODES;
-use crate::{beside, form};
+use crate::sizes::{LONGEST_LINE, MOST_CODES};
+use crate::word::Words;
+use crate::{beside, form, number};
 use kinds::{EcbList, NameList, Request};
 
 // Where nothing is asked of the tables there is only something to say. A fresh start takes none of them: it stands
@@ -29,88 +29,56 @@ pub(crate) struct Asked {
     pub(crate) names: NameList,
     pub(crate) ecbs: EcbList,
     pub(crate) length: usize,
+    ghost fits: { length ≤ most_codes },
 }
 
-// The line from..to of the block.
-pub(crate) fn read(block: &[u8], from: usize, to: usize) -> Asked
-    requires { (from ≤ to) × (to ≤ length block.now) }
-    ensures { result.length ≤ most_codes }
-{
-    of_line(&block[from..to])
-}
-
-fn of_line(line: &[u8]) -> Asked
-    ensures { result.length ≤ most_codes }
-{
-    match form::read(line) {
-        Form::Nothing => alone(What::Say(Said::Nothing)),
-        Form::Unreadable => unreadable(),
-        Form::NotHeld => alone(What::Say(Said::NotHeld)),
-        Form::Plain(request) => alone(What::Request(request)),
-        Form::Names {
-            request,
-            marks,
-            codes,
-            at,
-        } => with_names(line, at, marks, request, codes),
-        Form::Ecbs { request, at } => with_ecbs(line, at, request),
-        Form::Show(shows) => alone(What::Show(shows)),
-        Form::Fresh { limit, dispatching } => alone(What::Fresh { limit, dispatching }),
-        Form::Poke(poke) => alone(What::Poke(poke)),
+impl Asked {
+    // With nothing beside it.
+    fn alone(what: What) -> Asked {
+        Asked {
+            what,
+            names: NameList::none(),
+            ecbs: EcbList::none(),
+            length: 0,
+        }
     }
 }
 
-// With nothing beside it.
-fn alone(what: What) -> Asked
-    ensures { result.length ≤ most_codes }
-{
-    Asked {
-        what,
-        names: NameList::none(),
-        ecbs: EcbList::none(),
-        length: 0,
+pub(crate) fn read(line: &[u8]) -> Asked {
+    match whole(line) {
+        Some(asked) => asked,
+        None => Asked::alone(What::Say(Said::Unreadable)),
     }
 }
 
-fn unreadable() -> Asked
-    ensures { result.length ≤ most_codes }
-{
-    alone(What::Say(Said::Unreadable))
-}
-
-// ENQ or DEQ, with the names from `at` on.
-fn with_names(line: &[u8], at: usize, marks: bool, request: Request, codes: u32) -> Asked
-    ensures { result.length ≤ most_codes }
-{
-    if (MOST_CODES as u32) < codes {
-        return unreadable();
+// An empty line, or a remark, asks for nothing.
+fn whole(line: &[u8]) -> Option<Asked> {
+    if LONGEST_LINE < line.len() {
+        return None;
     }
-    let n = beside::read_names(line, at, marks);
-    if !n.good {
-        return unreadable();
+    if matches!(line, [] | [b'#', ..]) {
+        return Some(Asked::alone(What::Say(Said::Nothing)));
     }
-    let names = n.list;
-    Asked {
-        what: What::Request(request),
-        names,
-        ecbs: EcbList::none(),
-        length: codes as usize,
+    let mut words = Words::of(line);
+    let what = form::read(&mut words)?;
+    let mut asked = Asked::alone(what);
+    // ENQ and DEQ have two lines alike: one function for both would be longer
+    match what {
+        What::Request(Request::Enq { .. }) => {
+            asked.length = words.up_to(MOST_CODES)?;
+            asked.names.count = beside::read(&mut words, &mut asked.names.names, beside::marked)?;
+        }
+        What::Request(Request::Deq { .. }) => {
+            asked.length = words.up_to(MOST_CODES)?;
+            asked.names.count = beside::read(&mut words, &mut asked.names.names, beside::unmarked)?;
+        }
+        What::Request(Request::Wait { .. }) => {
+            asked.ecbs.count = beside::read(&mut words, &mut asked.ecbs.ecbs, number::ecb)?;
+        }
+        _ => {}
     }
-}
-
-// WAIT, with the ECBs from `at` on.
-fn with_ecbs(line: &[u8], at: usize, request: Request) -> Asked
-    ensures { result.length ≤ most_codes }
-{
-    let e = beside::read_ecbs(line, at);
-    if !e.good {
-        return unreadable();
+    if words.word().is_some() {
+        return None;
     }
-    let ecbs = e.list;
-    Asked {
-        what: What::Request(request),
-        names: NameList::none(),
-        ecbs,
-        length: 0,
-    }
+    Some(asked)
 }

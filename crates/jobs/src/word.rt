@@ -1,66 +1,59 @@
-// Words of a line, one space between. A word is named by the place
-// of its first byte; a place past the line's end has no word.
-ghost use Rattle.std.specs.Prelude.{◌≤◌, length};
+// Words of a line, one space between.
+ghost use Rattle.std.specs.Prelude.{◌≤◌, IfSome};
 
-// With eight bytes a key is above this.
-const SEVEN_BYTES: u64 = 0xffffffffffffff;
+use crate::number;
+use kinds::{EcbNumber, TaskNumber};
 
-// The end of the word at `at`: the next space, or the line's end.
-pub(crate) fn end_of(line: &[u8], at: usize) -> usize
-    ensures { result ≤ length line.now }
-{
-    let mut i = at;
-    while i < line.len() {
-        if line[i] == b' ' {
-            return i;
-        }
-        i += 1;
+// What stands before the first `separator`, and what stands after it if there is one.
+pub(crate) fn cut(bytes: &[u8], separator: u8) -> (&[u8], Option<&[u8]>) {
+    match bytes.iter().position(|byte| *byte == separator) {
+        Some(at) => (&bytes[..at], Some(&bytes[at + 1..])),
+        None => (bytes, None),
     }
-    line.len()
 }
 
-// Where the next word starts; past the line's end if there is none.
-pub(crate) fn after(line: &[u8], at: usize) -> usize {
-    end_of(line, at) + 1
+// The words of a line that are still to be read. An empty line is one empty word, and so is what a last space leaves.
+// It is no `Iterator`: `beside::read` then asks for a proof that the words end, for the same code.
+#[derive(Drop)]
+pub(crate) struct Words<'a> {
+    left: Option<&'a [u8]>,
 }
 
-// No word starts there.
-pub(crate) fn none_at(line: &[u8], at: usize) -> bool {
-    line.len() < at
-}
-
-// The number that the word's bytes make, the first counting most; 0
-// where it is too long, or has a zero byte, which would not count.
-pub(crate) fn key(line: &[u8], at: usize) -> u64 {
-    let mut key: u64 = 0;
-    let mut i = at;
-    while i < line.len() {
-        let byte = line[i];
-        if byte == b' ' {
-            return key;
-        }
-        if byte == 0 {
-            return 0;
-        }
-        if SEVEN_BYTES < key {
-            return 0;
-        }
-        key = key * 256 + wide(byte);
-        i += 1;
+impl<'a> Words<'a> {
+    pub(crate) fn of(line: &'a [u8]) -> Words<'a> {
+        Words { left: Some(line) }
     }
-    key
-}
 
-fn wide(byte: u8) -> u64
-    ensures { result ≤ 255 }
-{
-    byte as u64
-}
-
-// The key of a line's last word; 0 where another follows.
-pub(crate) fn last_key(line: &[u8], at: usize) -> u64 {
-    if none_at(line, after(line, at)) {
-        return key(line, at);
+    pub(crate) fn word(&mut self) -> Option<&'a [u8]> {
+        let (word, left) = cut(self.left?, b' ');
+        self.left = left;
+        Some(word)
     }
-    0
+
+    pub(crate) fn number(&mut self) -> Option<u32> {
+        number::read(self.word()?)
+    }
+
+    pub(crate) fn up_to(&mut self, most: usize) -> Option<usize>
+        ensures { IfSome result (λ n. n ≤ most) }
+    {
+        let n = self.number()? as usize;
+        if n <= most { Some(n) } else { None }
+    }
+
+    pub(crate) fn byte(&mut self) -> Option<u8> {
+        self.number().map(number::byte)
+    }
+
+    pub(crate) fn half(&mut self) -> Option<u16> {
+        self.number().map(number::half)
+    }
+
+    pub(crate) fn task(&mut self) -> Option<TaskNumber> {
+        self.byte().map(TaskNumber)
+    }
+
+    pub(crate) fn ecb(&mut self) -> Option<EcbNumber> {
+        number::ecb(self.word()?)
+    }
 }

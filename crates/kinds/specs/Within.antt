@@ -1,11 +1,10 @@
 -- What a range test says of its number.
-use Rattle.std.specs.Prelude.{◌≡◌, true, ℕ, ◌≤◌, ltb, leb}
-use Rattle.std.proofs.Common.{ltb-false, leb-true}
-use Rattle.lists.specs.Pick.{chain_not}
+use Rattle.std.specs.Prelude.{◌≡◌, true, ℕ, ◌≤◌, leb}
+use Rattle.std.proofs.Common.{leb-true}
+use Rattle.std.proofs.lemmas.Bool.{and_parts}
 use Rattle.kinds.specs.Ranges.{between}
 
 pub within : (lowest highest n : ℕ) → between lowest highest n ≡ true → (lowest ≤ n) × (n ≤ highest)
-unfolding between
 within lowest highest n h =
-    let p = chain_not (ltb n lowest) (leb n highest) h in
-    (ltb-false n lowest p.0, leb-true n highest p.1)
+    let p = and_parts (leb lowest n) (leb n highest) h in
+    (leb-true lowest n p.0, leb-true n highest p.1)

@@ -7,8 +7,8 @@ use native.Mathlib.Omega.{arith}
 use lib.ListN.{length}
 use Rattle.kinds.specs.Limits.{page, doubleword}
 use Rattle.kinds.specs.declared.areas.Area.{Area}
-use Rattle.kinds.specs.declared.numbers.MaybeAddress.{MaybeAddress}
-use Rattle.kinds.specs.declared.numbers.MaybeAddress.TheVariants.{At, Nowhere}
+use Rattle.std.specs.Prelude.{Option, Some, None}
+use Rattle.kinds.specs.declared.numbers.Address.{Address}
 use Rattle.rules.specs.Opened.{rules_open}
 use Rattle.rules.specs.Storage.{lowest}
 use Rattle.rules.specs.Getmain.{wanted}
@@ -28,11 +28,11 @@ every_page = counted on_page 0 32
 abbrev next8 : ℕ → Area
 next8 subpool = wanted 8 subpool 1
 
-abbrev at : ℕ → MaybeAddress
-at n = At (record { 0 = n })
+abbrev at : ℕ → Option Address
+at n = Some (record { 0 = n })
 
 -- every page has an area of another subpool
-pub subpool_33 : lowest every_page (next8 33) ≡ Nowhere
+pub subpool_33 : lowest every_page (next8 33) ≡ None
 unfolding rules_open lowest_among candidates
 subpool_33 = sym (lowest_among_lem every_page (next8 33) (omega arith) refl)
 
@@ -56,7 +56,7 @@ page_5_freed = sym (lowest_among_lem but_page5 (next8 33) (omega arith) refl)
 abbrev taken : List Area
 taken = counted on_page 0 5 ++ (area 20480 doubleword 33 1 ∷ behind5)
 
-pub subpool_34 : lowest taken (next8 34) ≡ Nowhere
+pub subpool_34 : lowest taken (next8 34) ≡ None
 unfolding rules_open lowest_among candidates
 subpool_34 = sym (lowest_among_lem taken (next8 34) (omega arith) refl)
 

@@ -9,7 +9,7 @@ use Rattle.lists.specs.Lists.{every, some}
 use Rattle.kinds.specs.Limits.{page}
 use Rattle.kinds.specs.declared.areas.Area.{Area}
 use Rattle.kinds.specs.declared.numbers.Address.{Address}
-use Rattle.kinds.specs.declared.numbers.MaybeAddress.TheVariants.{At}
+use Rattle.std.specs.Prelude.{Some}
 use Rattle.rules.specs.Opened.{rules_open}
 use Rattle.rules.specs.Storage.{past_end, lowest}
 use Rattle.rules.specs.Getmain.{wanted}
@@ -19,7 +19,7 @@ use Rattle.laws.specs.Candidates.{ends_at, is_candidate, lowest_candidate}
 -- where a test holds of every area, and a length is not 0, the lowest fit is one of the set
 abbrev Has : (Area → Bool) → (List Area → ℕ → Bool) → Type 0
 Has test set =
-    (l : List Area) (w : Area) → 0 < w.size → every test l ≡ true → (p : Address) → lowest l w ≡ At p
+    (l : List Area) (w : Area) → 0 < w.size → every test l ≡ true → (p : Address) → lowest l w ≡ Some p
     → set l p.0 ≡ true
 
 -- with ends at multiples of 8, and no other premise, the candidates are such a set

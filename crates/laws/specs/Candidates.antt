@@ -14,7 +14,7 @@ use Rattle.kinds.specs.Limits.{highest_address, region, page, doubleword}
 use Rattle.kinds.specs.Ranges.{address_good}
 use Rattle.kinds.specs.declared.areas.Area.{Area}
 use Rattle.kinds.specs.declared.numbers.Address.{Address}
-use Rattle.kinds.specs.declared.numbers.MaybeAddress.TheVariants.{At}
+use Rattle.std.specs.Prelude.{Some}
 use Rattle.rules.specs.DemandTwo.{Room}
 use Rattle.rules.specs.SoundAreas.{area_shape_good, area_shapes_good}
 use Rattle.rules.specs.Storage.{start_of, past_end, first_page, past_page, one_holder, bytes_apart, pages_apart, apart}
@@ -138,9 +138,9 @@ module _ (l : List Area) (w : Area) (long : 0 < w.size) (aligned : every aligned
           (f (s - doubleword) (omega arith)
           (record { aligned = q; permits = join (leb ((s - doubleword) + w.size) region) _ (le-leb _ region m) g }))
 
-  pub lowest_candidate : (p : Address) → lowest l w ≡ At p → is_candidate l p.0 ≡ true
+  pub lowest_candidate : (p : Address) → lowest l w ≡ Some p → is_candidate l p.0 ≡ true
   lowest_candidate p e =
-      let h : Lowest l w (At p) = subst (Lowest l w) e (lowest_is l w long) in none_below p.0 h.here h.below
+      let h : Lowest l w (Some p) = subst (Lowest l w) e (lowest_is l w long) in none_below p.0 h.here h.below
 
 -- WRITTEN OUT: the page starts, then the ends of areas
 abbrev pub page_starts : List ℕ

@@ -6,10 +6,10 @@ use Rattle.std.proofs.Common.{sym, ap, ◌∙◌, arith}
 use mathlib.Core.List.{List, [], ◌∷◌, ◌++◌}
 use Rattle.std.proofs.lemmas.Bool.{not-false}
 use Rattle.lists.specs.Pick.{pick, chosen}
-use Rattle.kinds.specs.declared.replies.Verdict.{Verdict}
-use Rattle.kinds.specs.declared.replies.Verdict.TheVariants.{Go}
+use Rattle.std.specs.Prelude.{Ok}
+use Rattle.kinds.specs.Replies.{Verdict}
+use Rattle.kinds.specs.declared.replies.No.TheVariants.{Refuse, Fail}
 use Rattle.rules.specs.Tests.{No, saying, Check, first_of, NoneHold, Decides}
-use Rattle.rules.specs.Tests.No.{refusal, fault}
 
 module _ (n : No) (after : List Check) where
   past : (bs : List Check) → NoneHold bs → first_of (bs ++ (record { says = n; when = true } ∷ after)) ≡ saying n
@@ -18,14 +18,14 @@ module _ (n : No) (after : List Check) where
   past (b ∷ bs) h = rw h.0 (past bs h.1)
 
 same_no : (m n : No) → saying m ≡ saying n → m ≡ n
-same_no (refusal w) (refusal v) e = cc
-same_no (refusal w) (fault v) e = cc
-same_no (fault w) (refusal v) e = cc
-same_no (fault w) (fault v) e = cc
+same_no (Refuse w) (Refuse v) e = cc
+same_no (Refuse w) (Fail v) e = cc
+same_no (Fail w) (Refuse v) e = cc
+same_no (Fail w) (Fail v) e = cc
 
-no_go : (n : No) → saying n ≡ Go → ⊥
-no_go (refusal w) e = let z : ◌≡◌ {A = ℕ} 0 1 = cc in omega arith
-no_go (fault w) e = let z : ◌≡◌ {A = ℕ} 0 1 = cc in omega arith
+no_go : (n : No) → saying n ≡ Ok tt → ⊥
+no_go (Refuse w) e = let z : ◌≡◌ {A = ℕ} 0 1 = cc in omega arith
+no_go (Fail w) e = let z : ◌≡◌ {A = ℕ} 0 1 = cc in omega arith
 
 pub decided : (ts : List Check) (n : No) → Decides ts n → first_of ts ≡ saying n
 decided ts n d = ap first_of d.split ∙ past n d.after d.before d.earlier
@@ -55,18 +55,18 @@ decides (t ∷ ts) n e = head t ts n t.when refl e (decides ts n)
 
 -- TO GO ON
 
-rest : (b : Bool) (n : No) (v : Verdict) → pick b (saying n) v ≡ Go → (b ≡ false) × (v ≡ Go)
+rest : (b : Bool) (n : No) (v : Verdict) → pick b (saying n) v ≡ Ok tt → (b ≡ false) × (v ≡ Ok tt)
 unfolding pick
 rest true n v e = absurd (no_go n e)
 rest false n v e = (refl, e)
 
-pub none_hold : (ts : List Check) → first_of ts ≡ Go → NoneHold ts
+pub none_hold : (ts : List Check) → first_of ts ≡ Ok tt → NoneHold ts
 none_hold [] e = tt
 none_hold (t ∷ ts) e =
     let r = rest t.when t.says (first_of ts) e in
     (r.0, none_hold ts r.1)
 
-pub goes_on : (ts : List Check) → NoneHold ts → first_of ts ≡ Go
+pub goes_on : (ts : List Check) → NoneHold ts → first_of ts ≡ Ok tt
 unfolding pick
 goes_on [] h = refl
 goes_on (t ∷ ts) h = rw h.0 (goes_on ts h.1)

@@ -13,10 +13,10 @@ use Rattle.kinds.specs.declared.requests.Request.TheVariants.{Getmain}
 use Rattle.kinds.specs.declared.replies.Refusal.{Refusal}
 use Rattle.kinds.specs.declared.replies.Refusal.TheVariants.{Unsound, OutOfRange}
 use Rattle.kinds.specs.declared.replies.Fault.{Fault}
-use Rattle.kinds.specs.declared.replies.Verdict.{Verdict}
-use Rattle.kinds.specs.declared.replies.Verdict.TheVariants.{Go, Refuse, Fail}
+use Rattle.std.specs.Prelude.{Ok, Err}
+use Rattle.kinds.specs.Replies.{Verdict}
+use Rattle.kinds.specs.declared.replies.No.TheVariants.{Refuse, Fail}
 use Rattle.rules.specs.Tests.{No, number_of_no, saying, Check, refuse, first_of, NoneHold, Decides}
-use Rattle.rules.specs.Tests.No.{refusal, fault}
 use Rattle.rules.specs.Form.{caller_of}
 use Rattle.rules.specs.Names.{Names}
 use Rattle.rules.specs.Events.{Ecbs}
@@ -39,9 +39,9 @@ use Rattle.laws.specs.Answering.{refusal_untouched, error_abends}
 
 -- what a verdict answers, k where it is to go on
 abbrev pub numbered : Verdict → ℕ → ℕ
-numbered Go k = k
-numbered (Refuse why) k = refusal_number why
-numbered (Fail what) k = fault_number what
+numbered (Ok _) k = k
+numbered (Err (Refuse why)) k = refusal_number why
+numbered (Err (Fail what)) k = fault_number what
 
 -- n is what the first of the tests that holds answers, and else 0 or 4
 pub record Numbered (ts : List Check) (n : ℕ) : Type 0 where
@@ -65,16 +65,16 @@ sorted s c area ts o (goes f g) =
     record { k = number_in o; ends = g; is = sym (ap (λ (v : Verdict). numbered v (number_in o)) f) }
 
 pub says : (n : No) (k : ℕ) → numbered (saying n) k ≡ number_of_no n
-says (refusal why) k = refl
-says (fault what) k = refl
+says (Refuse why) k = refl
+says (Fail what) k = refl
 
 pub told : (v : Verdict) (k : ℕ) (n : No) → Goes k → numbered v k ≡ number_of_no n → v ≡ saying n
-told Go k (refusal w) g e = absurd (goes_no_refusal k w g e)
-told Go k (fault w) g e = absurd (goes_no_fault k w g e)
-told (Refuse v) k (refusal w) g e = ap Refuse (refusal_once v w e)
-told (Refuse v) k (fault w) g e = absurd (no_refusal_fault v w e)
-told (Fail v) k (refusal w) g e = absurd (no_refusal_fault w v (sym e))
-told (Fail v) k (fault w) g e = ap Fail (fault_once v w e)
+told (Ok _) k (Refuse w) g e = absurd (goes_no_refusal k w g e)
+told (Ok _) k (Fail w) g e = absurd (goes_no_fault k w g e)
+told (Err (Refuse v)) k (Refuse w) g e = ap (λ (w : Refusal). Err (Refuse w)) (refusal_once v w e)
+told (Err (Refuse v)) k (Fail w) g e = absurd (no_refusal_fault v w e)
+told (Err (Fail v)) k (Refuse w) g e = absurd (no_refusal_fault w v (sym e))
+told (Err (Fail v)) k (Fail w) g e = ap (λ (w : Fault). Err (Fail w)) (fault_once v w e)
 
 module _ (ts : List Check) (n : ℕ) (d : Numbered ts n) where
   pub number_given : (m : No) → Decides ts m → n ≡ number_of_no m

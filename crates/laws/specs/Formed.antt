@@ -5,11 +5,10 @@ use Rattle.std.proofs.Common.{sym, ap, ◌∙◌}
 use Rattle.std.proofs.lemmas.Bool.{not-true}
 use Rattle.kinds.specs.Replies.{refusal_number}
 use Rattle.kinds.specs.declared.replies.Refusal.TheVariants.{OutOfRange}
-use Rattle.kinds.specs.declared.replies.Verdict.{Verdict}
-use Rattle.kinds.specs.declared.replies.Gate.{Gate}
-use Rattle.kinds.specs.declared.replies.Gate.TheVariants.{Open}
+use Rattle.std.specs.Prelude.{Ok}
+use Rattle.kinds.specs.Replies.{Verdict, Gate}
+use Rattle.kinds.specs.declared.replies.No.TheVariants.{Refuse}
 use Rattle.rules.specs.Tests.{No, number_of_no, saying, Check, first_of}
-use Rattle.rules.specs.Tests.No.{refusal}
 use Rattle.rules.specs.Form.{caller_of, ranges_good}
 use Rattle.rules.specs.Steps.{Step}
 use Rattle.rules.specs.Serve.{Asked, service_of, serve_of, own_tests, service_tests}
@@ -19,7 +18,7 @@ use Rattle.laws.specs.Tested.{gated, gate_at, tested}
 use Rattle.laws.specs.Answering.{service_sorts}
 use Rattle.laws.specs.Demanded.{numbered, Numbered, sorted, says, told}
 
-module _ (s : Step) (a : Asked) (h : Sound s) (o : gate_at s a.request ≡ Open) where
+module _ (s : Step) (a : Asked) (h : Sound s) (o : gate_at s a.request ≡ Ok tt) where
   abbrev own : List Check
   own = own_tests s a.request a.names a.ecbs (length a.area)
 
@@ -47,11 +46,11 @@ module _ (s : Step) (a : Asked) (h : Sound s) (o : gate_at s a.request ≡ Open)
   pub out_of_range : ranges_good a.request a.names a.ecbs ≡ false
       → (serve_of s a).outcome.number ≡ refusal_number OutOfRange
   out_of_range e =
-      own_answered (refusal OutOfRange)
+      own_answered (Refuse OutOfRange)
       ((tested s a.request a.names a.ecbs (length a.area)).ranged.given (ap not e))
 
   pub range_only : (serve_of s a).outcome.number ≡ refusal_number OutOfRange
       → ranges_good a.request a.names a.ecbs ≡ false
   range_only e =
       not-true _ ((tested s a.request a.names a.ecbs (length a.area)).ranged.when
-      (answered_own (refusal OutOfRange) e))
+      (answered_own (Refuse OutOfRange) e))

@@ -5,7 +5,7 @@ use Rattle.kinds.specs.Ranges.{priority_good, dpmod_good, end_code_good, ecb_goo
 use Rattle.kinds.specs.Ranges.{length_good, subpool_good}
 use Rattle.kinds.specs.declared.numbers.EcbNumber.{EcbNumber}
 use Rattle.kinds.specs.declared.numbers.Address.{Address}
-use Rattle.kinds.specs.declared.tasks.MaybeEcb.{MaybeEcb}
+use Rattle.std.specs.Prelude.{Option}
 use Rattle.kinds.specs.declared.requests.Ret.{Ret}
 use Rattle.rules.specs.Names.{Names, names_good}
 use Rattle.rules.specs.Attach.{maybe_good, attach_good}
@@ -16,7 +16,7 @@ use Rattle.rules.specs.Clear.{clear_good}
 use Rattle.rules.specs.Getmain.{getmain_good}
 use Rattle.rules.specs.Freemain.{freemain_good}
 
-pub attach_ecb : (lpmod : ℕ) (dpmod : ℤ) (ecb : MaybeEcb) → attach_good lpmod dpmod ecb ≡ true → maybe_good ecb ≡ true
+pub attach_ecb : (lpmod : ℕ) (dpmod : ℤ) (ecb : Option EcbNumber) → attach_good lpmod dpmod ecb ≡ true → maybe_good ecb ≡ true
 unfolding attach_good
 attach_ecb lpmod dpmod ecb h = (both (priority_good lpmod && dpmod_good dpmod) (maybe_good ecb) h).1
 

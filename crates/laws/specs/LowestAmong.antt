@@ -9,8 +9,7 @@ use Rattle.lists.specs.Bools.{both, join}
 use Rattle.lists.specs.Every.{every_gives, every_one}
 use Rattle.kinds.specs.declared.areas.Area.{Area}
 use Rattle.kinds.specs.declared.numbers.Address.{Address}
-use Rattle.kinds.specs.declared.numbers.MaybeAddress.{MaybeAddress}
-use Rattle.kinds.specs.declared.numbers.MaybeAddress.TheVariants.{At, Nowhere}
+use Rattle.std.specs.Prelude.{Option, Some, None}
 use Rattle.rules.specs.DemandTwo.{Room}
 use Rattle.rules.specs.Storage.{permitted, placed_at, lowest}
 use Rattle.laws.specs.Among.{number_kept}
@@ -19,23 +18,23 @@ use Rattle.laws.specs.Candidates.{is_candidate, aligned_end, candidates, listed}
 use Rattle.laws.specs.Candidates.{candidate_aligned, lowest_candidate}
 
 -- the lower of two addresses, of which one may be none
-abbrev pub lesser : ℕ → MaybeAddress → MaybeAddress
-lesser s (At p) = cond (leb s p.0) (At (record { 0 = s })) (At p)
-lesser s Nowhere = At (record { 0 = s })
+abbrev pub lesser : ℕ → Option Address → Option Address
+lesser s (Some p) = cond (leb s p.0) (Some (record { 0 = s })) (Some p)
+lesser s None = Some (record { 0 = s })
 
 -- the lowest of some
-abbrev pub least : List ℕ → MaybeAddress
-least [] = Nowhere
+abbrev pub least : List ℕ → Option Address
+least [] = None
 least (s ∷ l) = lesser s (least l)
 
 -- the lowest of the candidates at which the area is permitted
-unfoldable pub lowest_among : List Area → Area → MaybeAddress
+unfoldable pub lowest_among : List Area → Area → Option Address
 lowest_among l a = least (keep (λ (s : ℕ). permitted l (placed_at a s)) (candidates l))
 
 -- it is one of them, and none of them is lower; of none there is none
-abbrev Least : List ℕ → MaybeAddress → Type 0
-Least l (At p) = (some (eqb p.0) l ≡ true) × (every (leb p.0) l ≡ true)
-Least l Nowhere = l ≡ []
+abbrev Least : List ℕ → Option Address → Type 0
+Least l (Some p) = (some (eqb p.0) l ≡ true) × (every (leb p.0) l ≡ true)
+Least l None = l ≡ []
 
 least_is : (l : List ℕ) → Least l (least l)
 least_is [] = refl
@@ -50,8 +49,8 @@ least_is (s ∷ l) = one (least l) (least_is l)
     under : (p : ℕ) → s ≤ p → (x : ℕ) → leb p x ≡ true → leb s x ≡ true
     under p h x e = let k : p ≤ x = leb-true p x e in le-leb s x (omega arith)
 
-    two : (p : Address) (b : Bool) → leb s p.0 ≡ b → Least l (At p)
-        → Least (s ∷ l) (cond b (At (record { 0 = s })) (At p))
+    two : (p : Address) (b : Bool) → leb s p.0 ≡ b → Least l (Some p)
+        → Least (s ∷ l) (cond b (Some (record { 0 = s })) (Some p))
     two p true e h =
         let k : s ≤ p.0 = leb-true s p.0 e in
         (rw self, rw alone (every_gives (leb p.0) (leb s) (under p.0 k) l h.1))
@@ -59,9 +58,9 @@ least_is (s ∷ l) = one (least l) (least_is l)
         let k : p.0 < s = leb-false s p.0 e in
         (rw h.0 (or-true (eqb p.0 s)), rw (le-leb p.0 s (omega arith)) h.1)
 
-    one : (p : MaybeAddress) → Least l p → Least (s ∷ l) (lesser s p)
-    one (At p) h = two p (leb s p.0) refl h
-    one Nowhere h = (rw self, rw (alone, h))
+    one : (p : Option Address) → Least l p → Least (s ∷ l) (lesser s p)
+    one (Some p) h = two p (leb s p.0) refl h
+    one None h = (rw self, rw (alone, h))
 
 -- IT IS THE LOWEST OF ALL, where every area ends at a multiple of 8
 module _ (l : List Area) (a : Area) (long : 0 < a.size) (aligned : every aligned_end l ≡ true) where
@@ -83,18 +82,18 @@ module _ (l : List Area) (a : Area) (long : 0 < a.size) (aligned : every aligned
   room_fit s r c = fits_told s ∙ join (permitted l (placed_at a s)) (is_candidate l s) r.permits c
 
   -- what is lowest among these is lowest among all, as that is a candidate
-  one : (p q : MaybeAddress) → Least fits p → Lowest l a q → ((s : Address) → q ≡ At s → is_candidate l s.0 ≡ true)
+  one : (p q : Option Address) → Least fits p → Lowest l a q → ((s : Address) → q ≡ Some s → is_candidate l s.0 ≡ true)
       → p ≡ q
-  one (At p) (At q) h k c =
+  one (Some p) (Some q) h k c =
       let z = room_fit q.0 k.here (c q refl) in
       let g : p.0 ≤ q.0 = leb-true p.0 q.0 (every_one eqb eqb-true (leb p.0) fits q.0 h.1 z) in
       let f : q.0 ≤ p.0 = not_above l a q.0 p.0 (fit_room p.0 h.0) k.below in
       let e : p.0 ≡ q.0 = omega arith in
-      λ i. At (record { 0 = e i })
-  one (At p) Nowhere h k c = absurd (k.below p.0 tt (fit_room p.0 h.0))
-  one Nowhere (At q) h k c =
+      λ i. Some (record { 0 = e i })
+  one (Some p) None h k c = absurd (k.below p.0 tt (fit_room p.0 h.0))
+  one None (Some q) h k c =
       absurd (false≢true (ap (some (eqb q.0)) (sym h) ∙ room_fit q.0 k.here (c q refl)))
-  one Nowhere Nowhere h k c = refl
+  one None None h k c = refl
 
   pub lowest_among_lem : lowest_among l a ≡ lowest l a
   unfolding lowest_among

@@ -15,8 +15,7 @@ use Rattle.kinds.specs.Replies.Besides.{NoValue}
 use Rattle.kinds.specs.declared.numbers.TaskNumber.{TaskNumber}
 use Rattle.kinds.specs.declared.requests.Ret.TheVariants.{Have}
 use Rattle.kinds.specs.declared.tasks.Condition.TheVariants.{ResourceWait}
-use Rattle.kinds.specs.declared.replies.Gate.TheVariants.{Open}
-use Rattle.kinds.specs.declared.replies.Verdict.TheVariants.{Go}
+use Rattle.std.specs.Prelude.{Ok}
 use Rattle.rules.specs.Names.{Ask, Names}
 use Rattle.rules.specs.Control.{Entry, has_entry, available}
 use Rattle.rules.specs.Family.{place, with_place}
@@ -100,8 +99,8 @@ coded_besides k t = one (all_zero k)
     one true = refl
     one false = refl
 
-module _ (s : Step) (h : Sound s) (c : TaskNumber) (o : gate_of s c ≡ Open) (l : Names) (es : Ecbs) (area : List ℕ)
-    (g : enq_verdict s.queue c Have l (length area) ≡ Go) where
+module _ (s : Step) (h : Sound s) (c : TaskNumber) (o : gate_of s c ≡ Ok tt) (l : Names) (es : Ecbs) (area : List ℕ)
+    (g : enq_verdict s.queue c Have l (length area) ≡ Ok tt) where
   abbrev asked : Asked
   asked = enq_asked c Have l es area
 

@@ -13,21 +13,19 @@ use Rattle.lists.specs.Pick.{pick, pick_true}
 use Rattle.kinds.specs.Limits.{job_step_task}
 use Rattle.kinds.specs.Replies.{fault_number}
 use Rattle.kinds.specs.declared.numbers.TaskNumber.{TaskNumber}
-use Rattle.kinds.specs.declared.numbers.MaybeAddress.{MaybeAddress}
-use Rattle.kinds.specs.declared.numbers.MaybeAddress.TheVariants.{At, Nowhere}
+use Rattle.std.specs.Prelude.{Option, Some, Ok, Err}
+use Rattle.std.specs.Prelude.{None as Nothing}
+use Rattle.kinds.specs.Replies.{Verdict, Gate}
+use Rattle.kinds.specs.declared.replies.No.TheVariants.{Refuse, Fail}
+use Rattle.kinds.specs.declared.numbers.Address.{Address}
+use Rattle.kinds.specs.declared.numbers.EcbNumber.{EcbNumber}
 use Rattle.kinds.specs.declared.areas.Area.{Area}
 use Rattle.kinds.specs.declared.tasks.Task.{Task}
-use Rattle.kinds.specs.declared.tasks.MaybeEcb.{MaybeEcb}
-use Rattle.kinds.specs.declared.tasks.MaybeEcb.TheVariants.{NoEcb, Named}
 use Rattle.kinds.specs.declared.requests.Request.{Request}
 use Rattle.kinds.specs.declared.requests.Request.TheVariants.{Attach, Detach, End, Abend, Enq, Deq, Wait, Post, Clear}
 use Rattle.kinds.specs.declared.requests.Request.TheVariants.{Getmain, Freemain, Dispatch}
 use Rattle.kinds.specs.declared.requests.Ret.{Ret}
 use Rattle.kinds.specs.declared.requests.Ret.TheVariants.{None, Test, Use, Have, Chng}
-use Rattle.kinds.specs.declared.replies.Gate.{Gate}
-use Rattle.kinds.specs.declared.replies.Gate.TheVariants.{Open, Shut}
-use Rattle.kinds.specs.declared.replies.Verdict.{Verdict}
-use Rattle.kinds.specs.declared.replies.Verdict.TheVariants.{Go, Refuse, Fail}
 use Rattle.rules.specs.Names.{Resource, Names, name_of, names_of, same_name}
 use Rattle.rules.specs.Control.{Entry, of_task, is_for_one, has_entry}
 use Rattle.rules.specs.Events.{Ecbs}
@@ -127,9 +125,9 @@ module _ (asked : List Resource) where
   left_after s ts = kept (entry_stays ts) s.queue
 
   -- a post looks at no entry
-  posted_after : (s t : Step) (m : MaybeEcb) (code : ℕ) → After asked s t → After asked s (end_posted t m code)
-  posted_after s t NoEcb code h = h
-  posted_after s t (Named e) code h = h
+  posted_after : (s t : Step) (m : Option EcbNumber) (code : ℕ) → After asked s t → After asked s (end_posted t m code)
+  posted_after s t Nothing code h = h
+  posted_after s t (Some e) code h = h
 
   -- a step that is over holds none
   over_after : (s : Step) (code : ℕ) → After asked s (over_step code)
@@ -149,16 +147,16 @@ module _ (asked : List Resource) where
   through_after : (g : Gate) (s : Step) (o : Outcome Step) → After asked s o.tables
       → After asked s (through g s o).tables
   unfolding through
-  through_after Open s o h = h
-  through_after (Shut why) s o h = whole (entry_names s.queue)
+  through_after (Ok _) s o h = h
+  through_after (Err why) s o h = whole (entry_names s.queue)
 
   -- a refusal changes nothing, and a program error ends the caller
   settled_after : (v : Verdict) (s : Step) (c : TaskNumber) (o : Outcome Step) → After asked s o.tables
       → After asked s (settled v s c o).tables
   unfolding settled failing
-  settled_after Go s c o h = h
-  settled_after (Refuse why) s c o h = whole (entry_names s.queue)
-  settled_after (Fail what) s c o h = ended_after s c.0 (fault_number what)
+  settled_after (Ok _) s c o h = h
+  settled_after (Err (Refuse why)) s c o h = whole (entry_names s.queue)
+  settled_after (Err (Fail what)) s c o h = ended_after s c.0 (fault_number what)
 
   -- a service behind the caller's gate
   gated_after : (v : Verdict) (s : Step) (c : TaskNumber) (o : Outcome Step) → After asked s o.tables
@@ -186,9 +184,9 @@ module _ (asked : List Resource) where
       of_either (λ (o : Outcome Step). After asked s o.tables) (leb n (complete_of s.ecbs es)) (done s) _
       (whole (entry_names s.queue)) (whole (entry_names s.queue))
 
-  given_after : (s : Step) (a : Area) (m : MaybeAddress) → After asked s (given s a m).tables
-  given_after s a (At p) = whole (entry_names s.queue)
-  given_after s a Nowhere = whole (entry_names s.queue)
+  given_after : (s : Step) (a : Area) (m : Option Address) → After asked s (given s a m).tables
+  given_after s a (Some p) = whole (entry_names s.queue)
+  given_after s a Nothing = whole (entry_names s.queue)
 
   -- the codes decide the answer, and not what is left
   coded_after : (k : List ℕ) (s t : Step) → After asked s t → After asked s (coded k t).tables

@@ -3,7 +3,7 @@ use Rattle.std.specs.Prelude.{◌≡◌, Bool, true, false, ◌&&◌, List, ℕ}
 use Rattle.kinds.specs.declared.numbers.TaskNumber.{TaskNumber}
 use Rattle.kinds.specs.declared.requests.Ret.{Ret}
 use Rattle.kinds.specs.declared.requests.DeqRet.{DeqRet}
-use Rattle.kinds.specs.declared.replies.Verdict.TheVariants.{Go}
+use Rattle.std.specs.Prelude.{Ok}
 use Rattle.rules.specs.Names.{Names, names_good, asks_system}
 use Rattle.rules.specs.Control.{Entry}
 use Rattle.rules.specs.Codes.{too_short}
@@ -27,7 +27,7 @@ module _ (q : List Entry) (c : TaskNumber) where
     -- 105: entries that are to be queued have room
     pub room : too_few_free ret q c.0 l ≡ false
 
-  pub enq_passed : (ret : Ret) (l : Names) (space : ℕ) → enq_verdict q c ret l space ≡ Go → EnqPassed ret l space
+  pub enq_passed : (ret : Ret) (l : Names) (space : ℕ) → enq_verdict q c ret l space ≡ Ok tt → EnqPassed ret l space
   unfolding enq_verdict
   enq_passed ret l space h =
       let g = none_hold (enq_tests q c ret l space) h in
@@ -46,7 +46,7 @@ module _ (q : List Entry) (c : TaskNumber) where
     -- 202: under NONE the caller has an entry for each of them
     pub entered : unentered ret q c.0 l ≡ false
 
-  pub deq_passed : (ret : DeqRet) (l : Names) (space : ℕ) → deq_verdict q c ret l space ≡ Go → DeqPassed ret l space
+  pub deq_passed : (ret : DeqRet) (l : Names) (space : ℕ) → deq_verdict q c ret l space ≡ Ok tt → DeqPassed ret l space
   unfolding deq_verdict
   deq_passed ret l space h =
       let g = none_hold (deq_tests q c ret l space) h in

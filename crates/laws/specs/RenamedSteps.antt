@@ -17,11 +17,13 @@ use Rattle.kinds.specs.Ranges.{count_good}
 use Rattle.kinds.specs.Replies.{fault_number}
 use Rattle.kinds.specs.declared.numbers.TaskNumber.{TaskNumber}
 use Rattle.kinds.specs.declared.areas.Area.{Area}
-use Rattle.kinds.specs.declared.numbers.MaybeAddress.{MaybeAddress}
-use Rattle.kinds.specs.declared.numbers.MaybeAddress.TheVariants.{At, Nowhere}
+use Rattle.std.specs.Prelude.{Option, Some, Ok, Err}
+use Rattle.std.specs.Prelude.{None as Nothing}
+use Rattle.kinds.specs.Replies.{Verdict, Gate}
+use Rattle.kinds.specs.declared.replies.No.TheVariants.{Refuse, Fail}
+use Rattle.kinds.specs.declared.numbers.Address.{Address}
+use Rattle.kinds.specs.declared.numbers.EcbNumber.{EcbNumber}
 use Rattle.kinds.specs.declared.tasks.Task.{Task}
-use Rattle.kinds.specs.declared.tasks.MaybeEcb.{MaybeEcb}
-use Rattle.kinds.specs.declared.tasks.MaybeEcb.TheVariants.{NoEcb, Named}
 use Rattle.kinds.specs.declared.requests.Request.{Request}
 use Rattle.kinds.specs.declared.requests.Request.TheVariants.{Attach, Detach, End, Abend, Enq, Deq, Wait, Post, Clear}
 use Rattle.kinds.specs.declared.requests.Request.TheVariants.{Getmain, Freemain, Dispatch}
@@ -30,10 +32,6 @@ use Rattle.kinds.specs.declared.requests.Ret.TheVariants.{None, Test, Use, Have,
 use Rattle.kinds.specs.declared.requests.DeqRet.{DeqRet}
 use Rattle.kinds.specs.declared.replies.Refusal.TheVariants.{OutOfRange, SystemName, ShortArea, NoEntryFree}
 use Rattle.kinds.specs.declared.replies.Fault.TheVariants.{DuplicateEnq, DeqWithoutEntry}
-use Rattle.kinds.specs.declared.replies.Gate.{Gate}
-use Rattle.kinds.specs.declared.replies.Gate.TheVariants.{Open, Shut}
-use Rattle.kinds.specs.declared.replies.Verdict.{Verdict}
-use Rattle.kinds.specs.declared.replies.Verdict.TheVariants.{Go, Refuse, Fail}
 use Rattle.rules.specs.Tests.{refuse, fail, first_of}
 use Rattle.rules.specs.Names.{Resource, Ask, Names, names_of, same_name, legal, lawful, names_good, asks_system}
 use Rattle.rules.specs.Control.{Entry}
@@ -127,9 +125,9 @@ module _ (f : Resource → Resource) (known : Resource → Bool) (r : Apart f kn
       rest = with_tasks (left_by s ts) ts
 
   -- a post looks at no entry
-  posted_same : (s : Step) (m : MaybeEcb) (code : ℕ) → end_posted (re_step f s) m code ≡ re_step f (end_posted s m code)
-  posted_same s NoEcb code = refl
-  posted_same s (Named e) code = refl
+  posted_same : (s : Step) (m : Option EcbNumber) (code : ℕ) → end_posted (re_step f s) m code ≡ re_step f (end_posted s m code)
+  posted_same s Nothing code = refl
+  posted_same s (Some e) code = refl
 
   -- task c ends with a code
   pub ended_same : (s : Step) (c code : ℕ) → all_known known s.queue ≡ true
@@ -157,16 +155,16 @@ module _ (f : Resource → Resource) (known : Resource → Bool) (r : Apart f kn
   through_same : (g : Gate) (s : Step) (o p : Outcome Step) → p ≡ re_outcome f o
       → through g (re_step f s) p ≡ re_outcome f (through g s o)
   unfolding through
-  through_same Open s o p e = e
-  through_same (Shut why) s o p e = refl
+  through_same (Ok _) s o p e = e
+  through_same (Err why) s o p e = refl
 
   -- a verdict refuses alike, and ends the caller alike
   settled_same : (v : Verdict) (s : Step) (c : TaskNumber) (o p : Outcome Step) → all_known known s.queue ≡ true
       → p ≡ re_outcome f o → settled v (re_step f s) c p ≡ re_outcome f (settled v s c o)
   unfolding settled failing
-  settled_same Go s c o p h e = e
-  settled_same (Refuse why) s c o p h e = refl
-  settled_same (Fail what) s c o p h e = ap (failed what) (ended_same s c.0 (fault_number what) h)
+  settled_same (Ok _) s c o p h e = e
+  settled_same (Err (Refuse why)) s c o p h e = refl
+  settled_same (Err (Fail what)) s c o p h e = ap (failed what) (ended_same s c.0 (fault_number what) h)
 
   -- a service with the same verdict, behind the caller's gate
   gated_same : (v : Verdict) (s : Step) (c : TaskNumber) (o p : Outcome Step) → all_known known s.queue ≡ true
@@ -207,9 +205,9 @@ module _ (f : Resource → Resource) (known : Resource → Bool) (r : Apart f kn
   unfolding wait_done
   wait_same s c es n = choice f (leb n (complete_of s.ecbs es)) (done s) _
 
-  given_same : (s : Step) (a : Area) (m : MaybeAddress) → given (re_step f s) a m ≡ re_outcome f (given s a m)
-  given_same s a (At p) = refl
-  given_same s a Nowhere = refl
+  given_same : (s : Step) (a : Area) (m : Option Address) → given (re_step f s) a m ≡ re_outcome f (given s a m)
+  given_same s a (Some p) = refl
+  given_same s a Nothing = refl
 
   -- CODES
 

@@ -9,9 +9,8 @@ use Rattle.lists.specs.Bools.{decided}
 use Rattle.lists.specs.Pick.{pick}
 use Rattle.kinds.specs.Replies.Besides.{TheCount}
 use Rattle.kinds.specs.declared.replies.Refusal.TheVariants.{StepOver, ShortArea}
-use Rattle.kinds.specs.declared.replies.Gate.{Gate}
-use Rattle.kinds.specs.declared.replies.Gate.TheVariants.{Open, Shut}
-use Rattle.kinds.specs.declared.replies.Verdict.{Verdict}
+use Rattle.std.specs.Prelude.{Ok, Err}
+use Rattle.kinds.specs.Replies.{Verdict, Gate}
 use Rattle.rules.specs.Tests.{No, number_of_no, Check, refuse, first_of, NoneHold, Decides}
 use Rattle.rules.specs.Control.{Entry}
 use Rattle.rules.specs.Codes.{written_on}
@@ -29,19 +28,19 @@ length_written bytes area h = simp (length-append, length-drop) (omega arith)
 -- BY THE GATE
 module _ (s : Step) (r : ItemList) (area : List ℕ) where
   keeps_at : (g : Gate) → (reported g s r area).outcome.tables ≡ s
-  keeps_at Open = refl
-  keeps_at (Shut why) = refl
+  keeps_at (Ok _) = refl
+  keeps_at (Err why) = refl
 
   unwritten_at : (g : Gate) → ((reported g s r area).outcome.number ≡ 0 → ⊥) → (reported g s r area).codes ≡ area
-  unwritten_at Open h = absurd (h refl)
-  unwritten_at (Shut why) h = refl
+  unwritten_at (Ok _) h = absurd (h refl)
+  unwritten_at (Err why) h = refl
 
   written_at : (g : Gate) → (reported g s r area).outcome.number ≡ 0
       → ((reported g s r area).outcome.besides ≡ TheCount r.items)
       × ((reported g s r area).codes ≡ r.bytes ++ drop (length r.bytes) area)
   unfolding written_on
-  written_at Open h = (refl, refl)
-  written_at (Shut why) h = absurd (goes_no_refusal 0 why (inl refl) (sym h))
+  written_at (Ok _) h = (refl, refl)
+  written_at (Err why) h = absurd (goes_no_refusal 0 why (inl refl) (sym h))
 
   -- the step is over or not, the area too short or not
   sorts_at : (over short : Bool)

@@ -16,9 +16,9 @@ use Rattle.kinds.specs.declared.requests.DeqRet.{DeqRet}
 use Rattle.kinds.specs.declared.requests.DeqRet.TheVariants.{None, Have}
 use Rattle.kinds.specs.declared.replies.Refusal.TheVariants.{Unsound, OutOfRange, SystemName}
 use Rattle.kinds.specs.declared.replies.Fault.TheVariants.{DeqWithoutEntry}
-use Rattle.kinds.specs.declared.replies.Gate.TheVariants.{Open}
+use Rattle.std.specs.Prelude.{Ok}
+use Rattle.kinds.specs.declared.replies.No.TheVariants.{Refuse, Fail}
 use Rattle.rules.specs.Tests.{refuse}
-use Rattle.rules.specs.Tests.No.{refusal, fault}
 use Rattle.rules.specs.Names.{Resource, same_name, legal, is_system, lawful, Names, names_of, names_good, asks_system}
 use Rattle.rules.specs.Control.{Entry, of_task, has_entry}
 use Rattle.rules.specs.Events.{Ecbs}
@@ -56,7 +56,7 @@ deq_asked c ret l es area = record { request = Deq c ret; names = l; ecbs = es; 
 -- after 101 and before 104.": on a sound step, with an open gate and a list that 101 lets pass, whatever the RET kind
 -- and the codes area
 module _ (s : Step) (c : TaskNumber) (ret : Ret) (l : Names) (es : Ecbs) (area : List ℕ) (h : Sound s)
-    (o : gate_of s c ≡ Open) (good : enq_good ret l ≡ true) where
+    (o : gate_of s c ≡ Ok tt) (good : enq_good ret l ≡ true) where
   abbrev asked : Asked
   asked = enq_asked c ret l es area
 
@@ -68,11 +68,11 @@ module _ (s : Step) (c : TaskNumber) (ret : Ret) (l : Names) (es : Ecbs) (area :
   -- 110 is answered, and neither the step nor a byte of the area changes ..
   pub system_refused : asks_system l ≡ true → serve_of s asked ≡ untouched area (refused SystemName s)
   system_refused e =
-      (demand_one.requests s asked).unchanged SystemName (own_answered s asked h o (refusal SystemName) (said.given e))
+      (demand_one.requests s asked).unchanged SystemName (own_answered s asked h o (Refuse SystemName) (said.given e))
 
   -- .. exactly when some name of the list is a system name
   pub system_only : (serve_of s asked).outcome.number ≡ refusal_number SystemName → asks_system l ≡ true
-  system_only e = said.when (answered_own s asked h o (refusal SystemName) e)
+  system_only e = said.when (answered_own s asked h o (Refuse SystemName) e)
 
 -- "Sound tables hold no such name."
 
@@ -104,7 +104,7 @@ pub deq_no_110 : (s : Step) (c : TaskNumber) (ret : DeqRet) (l : Names) (es : Ec
 deq_no_110 s c ret l es area e =
     let a = deq_asked c ret l es area in
     others SystemName (tests_of s a) refl
-    (decided (tests_of s a) (refusal SystemName) ((demand_one.requests s a).when (refusal SystemName) e))
+    (decided (tests_of s a) (Refuse SystemName) ((demand_one.requests s a).when (Refuse SystemName) e))
 
 -- a name that is not the system's is another than one that is
 another_name : (m n : Resource) → is_system m ≡ false → is_system n ≡ true → same_name m n ≡ false
@@ -136,11 +136,11 @@ module _ (s : Step) (h : Sound s) where
   unfolding deq_code
   system_deq_code t n y = pick_false _ 0 8 (no_entry s.queue t n (sound_no_system s h) y)
 
-  pub system_deq_error : (c : TaskNumber) (l : Names) (es : Ecbs) (area : List ℕ) → gate_of s c ≡ Open
+  pub system_deq_error : (c : TaskNumber) (l : Names) (es : Ecbs) (area : List ℕ) → gate_of s c ≡ Ok tt
       → names_good l ≡ true → asks_system l ≡ true
       → (serve_of s (deq_asked c None l es area)).outcome.number ≡ fault_number DeqWithoutEntry
   unfolding asks_system
   system_deq_error c l es area o good y =
-      own_answered s (deq_asked c None l es area) h o (fault DeqWithoutEntry)
+      own_answered s (deq_asked c None l es area) h o (Fail DeqWithoutEntry)
       (pick_false (not (names_good l)) _ _ (ap not good) ∙ pick_false false _ _ refl
       ∙ pick_true _ _ _ (ap not (some_unentered s.queue c.0 (names_of l) (sound_no_system s h) y)))

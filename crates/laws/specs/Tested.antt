@@ -17,12 +17,10 @@ use Rattle.kinds.specs.declared.requests.Request.TheVariants.{Attach, Detach, En
 use Rattle.kinds.specs.declared.requests.Request.TheVariants.{Clear, Getmain, Freemain, Dispatch}
 use Rattle.kinds.specs.declared.replies.Refusal.{Refusal}
 use Rattle.kinds.specs.declared.replies.Refusal.TheVariants.{OutOfRange}
-use Rattle.kinds.specs.declared.replies.Verdict.{Verdict}
-use Rattle.kinds.specs.declared.replies.Verdict.TheVariants.{Refuse}
-use Rattle.kinds.specs.declared.replies.Gate.{Gate}
-use Rattle.kinds.specs.declared.replies.Gate.TheVariants.{Open, Shut}
+use Rattle.std.specs.Prelude.{Ok, Err}
+use Rattle.kinds.specs.Replies.{Verdict, Gate}
+use Rattle.kinds.specs.declared.replies.No.TheVariants.{Refuse, Fail}
 use Rattle.rules.specs.Tests.{No, number_of_no, saying, Check, refuse, first_of, numbers_of, in_order}
-use Rattle.rules.specs.Tests.No.{refusal, fault}
 use Rattle.rules.specs.Form.{by_caller, ranges_good}
 use Rattle.rules.specs.Names.{Names}
 use Rattle.rules.specs.Events.{Ecbs}
@@ -36,8 +34,8 @@ use Rattle.rules.specs.DemandOne.{paper_order}
 
 -- what a gate leaves of a verdict
 abbrev pub gated : Gate → Verdict → Verdict
-gated Open v = v
-gated (Shut why) v = Refuse why
+gated (Ok _) v = v
+gated (Err why) v = Err (Refuse why)
 
 pub gate_by_lem : (a b d : Bool) (ts : List Check)
     → first_of (admission_tests a b d ++ ts) ≡ gated (admitted a b d) (first_of ts)
@@ -60,18 +58,18 @@ module _ (why : Refusal) where
   abbrev another : Check → Bool
   another t = not (eqb (number_of_no t.says) (refusal_number why))
 
-  other : (m : No) → not (eqb (number_of_no m) (refusal_number why)) ≡ true → saying m ≡ Refuse why → ⊥
-  other (refusal w) h e =
+  other : (m : No) → not (eqb (number_of_no m) (refusal_number why)) ≡ true → saying m ≡ Err (Refuse why) → ⊥
+  other (Refuse w) h e =
       let d : w ≡ why = cc in
       eqb-false (refusal_number w) (refusal_number why) (not-true _ h) (ap refusal_number d)
-  other (fault w) h e = let z : ◌≡◌ {A = ℕ} 0 1 = cc in omega arith
+  other (Fail w) h e = let z : ◌≡◌ {A = ℕ} 0 1 = cc in omega arith
 
-  pub others : (ts : List Check) → every another ts ≡ true → first_of ts ≡ Refuse why → ⊥
+  pub others : (ts : List Check) → every another ts ≡ true → first_of ts ≡ Err (Refuse why) → ⊥
   unfolding pick
   others [] h e = let z : ◌≡◌ {A = ℕ} 0 1 = cc in omega arith
   others (t ∷ ts) h e = one t.when refl (others ts (both (another t) _ h).1)
     where
-      one : (b : Bool) → t.when ≡ b → (first_of ts ≡ Refuse why → ⊥) → ⊥
+      one : (b : Bool) → t.when ≡ b → (first_of ts ≡ Err (Refuse why) → ⊥) → ⊥
       one true q k =
           other t.says (both (another t) _ h).0
           (sym (ap (λ (b : Bool). pick b (saying t.says) (first_of ts)) q) ∙ e)
@@ -79,8 +77,8 @@ module _ (why : Refusal) where
 
   -- it is what the tests say, exactly when b holds
   pub record SaidWhen (ts : List Check) (b : Bool) : Type 0 where
-    pub given : b ≡ true → first_of ts ≡ Refuse why
-    pub when : first_of ts ≡ Refuse why → b ≡ true
+    pub given : b ≡ true → first_of ts ≡ Err (Refuse why)
+    pub when : first_of ts ≡ Err (Refuse why) → b ≡ true
 
   -- as it is of its own test, if none behind says its number
   pub said_when : (b : Bool) (ts : List Check) → every another ts ≡ true → SaidWhen (refuse why b ∷ ts) b

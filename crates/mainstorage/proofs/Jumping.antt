@@ -13,8 +13,8 @@ use Rattle.lists.specs.Bools.{both, join}
 use Rattle.lists.specs.Setting.{how_many_few}
 use Rattle.kinds.specs.Limits.{region, doubleword, most_areas}
 use Rattle.kinds.specs.declared.areas.Area.{Area}
-use Rattle.kinds.specs.declared.numbers.MaybeAddress.{MaybeAddress}
-use Rattle.kinds.specs.declared.numbers.MaybeAddress.TheVariants.{At, Nowhere}
+use Rattle.std.specs.Prelude.{Option, Some, None}
+use Rattle.kinds.specs.declared.numbers.Address.{Address}
 use Rattle.rules.specs.Storage.{apart, permitted, placed_at, lowest_from, lowest}
 use Rattle.mainstorage.specs.OneOf.{OneOf}
 use Rattle.mainstorage.specs.Tries.{most_tries, tries_left, tries_few, tries_over, above, marks_fall}
@@ -27,7 +27,7 @@ one_more : {l : List Area} {x : Area} (y : Area) → OneOf l x → OneOf (y ∷ 
 one_more {l} y h = record { passes = λ f u. h.passes f (both (f y) (every f l) u).1 }
 
 -- P holds of what comes of the first that is in the way, or of none
-first_told : (P : MaybeAddress → Type 0) (w : Area) (s : ℕ) (g : Area → MaybeAddress) (d : MaybeAddress) (l : List Area)
+first_told : (P : Option Address → Type 0) (w : Area) (s : ℕ) (g : Area → Option Address) (d : Option Address) (l : List Area)
     → ((x : Area) → OneOf l x → apart (placed_at w s) x ≡ false → P (g x))
     → (every (apart (placed_at w s)) l ≡ true → P d)
     → P (of_first (in_way w s) g d l)
@@ -45,15 +45,15 @@ first_told P w s g d (y ∷ l) h k =
 -- ONE TRY at s, and the jumps after it
 module _ (l : List Area) (w : Area) where
   -- the plain search from s on finds the same
-  abbrev Same : ℕ → MaybeAddress → Type 0
+  abbrev Same : ℕ → Option Address → Type 0
   Same s p = p ≡ lowest_from (multiples_from s) l w s
 
-  at_end : (s : ℕ) → region ≤ s → Same s Nowhere
+  at_end : (s : ℕ) → region ≤ s → Same s None
   unfolding lowest_from
   at_end s h = let z : 0 ≡ multiples_from s = omega arith in ap (λ (n : ℕ). lowest_from n l w s) z
 
   here : (s : ℕ) → s % doubleword ≡ 0 → s < region → s + w.size ≤ region
-      → every (apart (placed_at w s)) l ≡ true → Same s (At (record { 0 = s }))
+      → every (apart (placed_at w s)) l ≡ true → Same s (Some (record { 0 = s }))
   unfolding permitted
   here s e i q u = sym (lowest_here l w (multiples_from s) s (omega arith) (rw (le-leb (s + w.size) region q) u))
 
@@ -64,13 +64,13 @@ module _ (l : List Area) (w : Area) where
     where
       one : (a b : Bool) → leb region s ≡ a → ltb region (s + w.size) ≡ b
           → Same s
-          (cond (a || b) Nowhere
-          (of_first (in_way w s) (λ x. jumping past tries l w (past w x)) (At (record { 0 = s })) l))
+          (cond (a || b) None
+          (of_first (in_way w s) (λ x. jumping past tries l w (past w x)) (Some (record { 0 = s })) l))
       one true b p q = at_end s (leb-true region s p)
       one false true p q = sym (lowest_beyond l w (multiples_from s) s (ltb-true region (s + w.size) q))
       one false false p q =
           let i = leb-false region s p in
-          first_told (Same s) w s (λ x. jumping past tries l w (past w x)) (At (record { 0 = s })) l
+          first_told (Same s) w s (λ x. jumping past tries l w (past w x)) (Some (record { 0 = s })) l
           (λ x o u. let j = jumped o w s (past w x) e i u refl in f x o j ∙ sym j.same)
           (here s e i (ltb-false region (s + w.size) q))
 

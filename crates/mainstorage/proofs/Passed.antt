@@ -7,11 +7,11 @@ use native.Mathlib.Omega.{arith}
 use borrow.Author.Tests.{lt-leb}
 use Rattle.kinds.specs.Limits.{region, doubleword}
 use Rattle.kinds.specs.declared.areas.Area.{Area}
-use Rattle.kinds.specs.declared.numbers.MaybeAddress.TheVariants.{At, Nowhere}
+use Rattle.std.specs.Prelude.{Some, None}
 use Rattle.rules.specs.Storage.{permitted, placed_at, lowest_from}
 
 module _ (l : List Area) (w : Area) where
-  pub lowest_here : (m s : ℕ) → 0 < m → permitted l (placed_at w s) ≡ true → lowest_from m l w s ≡ At (record { 0 = s })
+  pub lowest_here : (m s : ℕ) → 0 < m → permitted l (placed_at w s) ≡ true → lowest_from m l w s ≡ Some (record { 0 = s })
   unfolding lowest_from
   lowest_here zero s h e = absurd (omega arith)
   lowest_here (suc m) s h e = rw e
@@ -37,7 +37,7 @@ module _ (l : List Area) (w : Area) where
       ∙ ap (lowest_from m l w) e
 
   -- what ends beyond the region does so further up too
-  pub lowest_beyond : (m s : ℕ) → region < s + w.size → lowest_from m l w s ≡ Nowhere
+  pub lowest_beyond : (m s : ℕ) → region < s + w.size → lowest_from m l w s ≡ None
   unfolding lowest_from permitted
   lowest_beyond zero s h = refl
   lowest_beyond (suc m) s h = rw (lt-leb _ _ h) (lowest_beyond m (s + doubleword) (omega arith))

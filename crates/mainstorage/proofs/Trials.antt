@@ -1,27 +1,25 @@
 -- THE CODE'S SEARCH, which jumps and counts its tries, among the first n areas of l.
 use mathlib.Core.Path.{◌≡◌, refl, sym, ap, ◌∙◌}
-use mathlib.Core.Bool.{Bool, true, false, ◌&&◌, true≢false}
-use mathlib.Core.List.{List}
+use mathlib.Core.Bool.{Bool, true, false, not, cond, ◌&&◌, true≢false}
+use mathlib.Core.List.{List, [], ◌∷◌}
 use Prim.Native.Nat.{ℕ, ◌+◌, ◌≤◌, ◌<◌}
 use native.Mathlib.Omega.{arith}
-use lib.Dec.{ltb}
-use lib.ListN.{length, get_or, take}
-use lib.Seq.{get_or-take, length-take-le}
-use borrow.Author.Tests.{ltb-true, ltb-false}
+use lib.ListN.{length, take}
+use lib.Seq.{length-take-le}
+use Rattle.std.specs.Prelude.{find, Some, None}
+use Rattle.std.specs.Option.{is_some}
+use Rattle.std.proofs.lemmas.Option.{same_Some}
 use Rattle.lists.specs.Lists.{every}
-use Rattle.lists.specs.Bools.{and_left}
-use Rattle.lists.specs.Loops.{yet_more}
-use Rattle.lists.specs.Setting.{every_at_lem}
+use Rattle.lists.specs.Bools.{both}
 use Rattle.kinds.specs.Limits.{most_areas, region}
 use Rattle.kinds.specs.declared.areas.Area.{Area}
-use Rattle.kinds.specs.declared.numbers.MaybeAddress.TheVariants.{Nowhere}
+use Rattle.std.specs.Prelude.{Some, None}
 use Rattle.rules.specs.Storage.{past_end, apart, placed_at, lowest}
 use Rattle.laws.specs.Candidates.{is_candidate, aligned_end}
 use Rattle.mainstorage.specs.Bars.{bar_of, next_at}
 use Rattle.mainstorage.specs.OneOf.{OneOf}
 use Rattle.mainstorage.specs.Tries.{most_tries, tries_left, tries_few, tries_over}
-use Rattle.mainstorage.proofs.Searching.{Searching, search_first, places, none_at_end, Testing, tests_first}
-use Rattle.mainstorage.proofs.Searching.{tests_on}
+use Rattle.mainstorage.proofs.Searching.{Searching, search_first, none_at_end, found_at}
 use Rattle.mainstorage.proofs.Jumps.{jumped}
 
 -- BEFORE A TRY at s: it has found nothing yet, and no more addresses are left than tries
@@ -39,58 +37,52 @@ tries_first l n w h e = record {
   candidate = λ v i. refl;
 }
 
--- it ends at the region's end; the count never ends it earlier, for then nothing is left
-pub none_left : {l : List Area} {n : ℕ} {w : Area} {s tries : ℕ} → Trying l n w s tries
-    → (ltb s region && ltb tries most_tries) ≡ false → Nowhere ≡ lowest (take n l) w
-none_left {l} {n} {w} {s} {tries} h k = none_at_end h.searching (one (ltb s region) refl k)
-  where
-    one : (b : Bool) → ltb s region ≡ b → (b && ltb tries most_tries) ≡ false → region ≤ s
-    one true p q =
-        let m : most_tries ≤ tries = ltb-false tries most_tries q in
-        tries_over (take n l) s (omega (arith, h.left))
-    one false p q = ltb-false s region p
+-- the count never ends it before the region's end, for then nothing is left
+pub none_left : {l : List Area} {n : ℕ} {w : Area} {s tries : ℕ} → Trying l n w s tries → most_tries ≤ tries
+    → None ≡ lowest (take n l) w
+none_left {l} {n} {w} {s} h k = none_at_end h.searching (tries_over (take n l) s (omega (arith, h.left)))
 
--- ONE TRY: where an area was not apart, it is x, the last tested, and one of the n
-pub record Trial (l : List Area) (n : ℕ) (w : Area) (s tries : ℕ) (a x : Area) (free : Bool) (j : ℕ) : Type 0 where
-  pub trying : Trying l n w s tries
-  pub testing : Testing l n w s a free j
-  pub stopped : free ≡ false → (apart a x ≡ false) × OneOf (take n l) x
-
-pub trial_first : {l : List Area} {n : ℕ} {w : Area} {s tries : ℕ} {a x : Area} → Trying l n w s tries
-    → (ltb s region && ltb tries most_tries) ≡ true → a ≡ placed_at w s → past_end a ≤ region
-    → Trial l n w s tries a x true 0
-trial_first {s = s} {tries = tries} h k p e = record {
-  trying = h;
-  testing = tests_first (ltb-true s region (and_left (ltb s region) (ltb tries most_tries) k)) p e;
-  stopped = λ q. absurd (true≢false q);
-}
-
-module _ {l : List Area} {n : ℕ} {w : Area} {s tries : ℕ} {a x : Area} {free : Bool} {j : ℕ}
-    (t : Trial l n w s tries a x free j) where
-  pub trial_on : (d : Area) (now : Bool) → (ltb j n && free) ≡ true → now ≡ apart a (get_or l j d)
-      → Trial l n w s tries a (get_or l j d) now (j + 1)
-  trial_on d now h q = record {
-    trying = t.trying;
-    testing = tests_on t.trying.searching t.testing d now h q;
-    stopped = λ e. (sym q ∙ e, record { passes = passes (yet_more t.testing.tested h) });
-  }
+-- what a search for the first that is not apart from a tells
+module _ (a : Area) where
+  none_found : (l : List Area) → find (λ (x : Area). not (apart a x)) l ≡ None → every (apart a) l ≡ true
+  none_found [] e = refl
+  none_found (x ∷ l) e = one (apart a x) e (none_found l)
     where
-      passes : j < n → (f : Area → Bool) → every f (take n l) ≡ true → f (get_or l j d) ≡ true
-      passes k f u =
-          ap f (sym (get_or-take n l j d k))
-          ∙ every_at_lem f (take n l) j d u (rw (length-take-le n l (places t.trying.searching)) k)
+      one : (b : Bool) → cond (not b) (Some x) (find (λ (y : Area). not (apart a y)) l) ≡ None
+          → (find (λ (y : Area). not (apart a y)) l ≡ None → every (apart a) l ≡ true) → (b && every (apart a) l) ≡ true
+      one true u ih = ih u
+      one false u ih = absurd (true≢false (ap is_some u))
 
-  -- one stands in the way, and the search goes on past it
-  pub jump : free ≡ false → (b u : ℕ) → b ≡ bar_of w x → u ≡ next_at b → (s < u) × Trying l n w u (tries + 1)
-  jump e b u p q =
-      let h = t.trying.searching in
-      let z = t.stopped e in
-      let i : apart (placed_at w s) x ≡ false = ap (λ (y : Area). apart y x) (sym t.testing.here) ∙ z.0 in
-      let g = jumped z.1 w s u h.aligned t.testing.inside i (q ∙ ap next_at p) in (
-        g.further,
-        record {
-          searching = record { few = h.few; full = h.full; aligned = g.aligned; same = h.same ∙ g.same };
-          left = omega (arith, t.trying.left, g.fewer);
-          candidate = g.candidate;
-        },
-      )
+  one_found : (l : List Area) (x : Area) → find (λ (y : Area). not (apart a y)) l ≡ Some x
+      → (apart a x ≡ false) × OneOf l x
+  one_found [] x e = absurd (true≢false (ap is_some (sym e)))
+  one_found (y ∷ l) x e = one (apart a y) refl e (one_found l x)
+    where
+      one : (b : Bool) → apart a y ≡ b → cond (not b) (Some y) (find (λ (z : Area). not (apart a z)) l) ≡ Some x
+          → (find (λ (z : Area). not (apart a z)) l ≡ Some x → (apart a x ≡ false) × OneOf l x)
+          → (apart a x ≡ false) × OneOf (y ∷ l) x
+      one true k u ih = let r = ih u in (r.0, record { passes = λ f v. r.1.passes f (both (f y) (every f l) v).1 })
+      one false k u ih =
+          let q : y ≡ x = same_Some y x u in
+          (ap (apart a) (sym q) ∙ k, record { passes = λ f v. ap f (sym q) ∙ (both (f y) (every f l) v).0 })
+
+-- ONE TRY, of the area a wanted at s
+module _ {l : List Area} {n : ℕ} {w : Area} {s tries : ℕ} (t : Trying l n w s tries) (a : Area) (inside : s < region)
+    (here : a ≡ placed_at w s) (ends : past_end a ≤ region) where
+  -- none stands in the way
+  pub found_free : find (λ (x : Area). not (apart a x)) (take n l) ≡ None → Some (record { 0 = s }) ≡ lowest (take n l) w
+  found_free e = found_at t.searching a inside here ends (none_found a (take n l) e)
+
+  -- x stands in the way, and the search goes on past it
+  pub jump : (x : Area) → find (λ (y : Area). not (apart a y)) (take n l) ≡ Some x → (b u : ℕ) → b ≡ bar_of w x
+      → u ≡ next_at b → Trying l n w u (tries + 1)
+  jump x e b u p q =
+      let h = t.searching in
+      let z = one_found a (take n l) x e in
+      let i : apart (placed_at w s) x ≡ false = ap (λ (y : Area). apart y x) (sym here) ∙ z.0 in
+      let g = jumped z.1 w s u h.aligned inside i (q ∙ ap next_at p) in
+      record {
+        searching = record { few = h.few; full = h.full; aligned = g.aligned; same = h.same ∙ g.same };
+        left = omega (arith, t.left, g.fewer);
+        candidate = g.candidate;
+      }

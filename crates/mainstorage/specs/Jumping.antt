@@ -2,8 +2,8 @@
 use Rattle.std.specs.Prelude.{ℕ, zero, suc, ◌+◌, Bool, not, cond, ◌||◌, List, [], ◌∷◌, leb, ltb}
 use Rattle.kinds.specs.Limits.{region}
 use Rattle.kinds.specs.declared.areas.Area.{Area}
-use Rattle.kinds.specs.declared.numbers.MaybeAddress.{MaybeAddress}
-use Rattle.kinds.specs.declared.numbers.MaybeAddress.TheVariants.{At, Nowhere}
+use Rattle.std.specs.Prelude.{Option, Some, None}
+use Rattle.kinds.specs.declared.numbers.Address.{Address}
 use Rattle.rules.specs.Storage.{apart, placed_at}
 use Rattle.mainstorage.specs.Bars.{bar_of, next_at}
 
@@ -21,11 +21,11 @@ abbrev pub in_way : Area → ℕ → Area → Bool
 in_way w s x = not (apart (placed_at w s) x)
 
 -- so many tries, from s on
-abbrev pub jumping : Jump → ℕ → List Area → Area → ℕ → MaybeAddress
-jumping next zero l w s = Nowhere
+abbrev pub jumping : Jump → ℕ → List Area → Area → ℕ → Option Address
+jumping next zero l w s = None
 jumping next (suc tries) l w s =
-    cond (leb region s || ltb region (s + w.size)) Nowhere
-    (of_first (in_way w s) (λ x. jumping next tries l w (next w x)) (At (record { 0 = s })) l)
+    cond (leb region s || ltb region (s + w.size)) None
+    (of_first (in_way w s) (λ x. jumping next tries l w (next w x)) (Some (record { 0 = s })) l)
 
 -- the code's rule: past the area for its own holder, else past its last page
 abbrev pub past : Jump

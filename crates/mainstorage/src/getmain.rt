@@ -2,13 +2,13 @@
 ghost use Rattle.std.specs.Prelude.{◌≡◌, true, ◌≤◌, leb, length};
 ghost use Rattle.kinds.specs.Limits.{most_areas};
 ghost use Rattle.rules.specs.Storage.{lowest};
-ghost use Rattle.rules.specs.Getmain.{getmain_good, is_nowhere, wanted, getmain_verdict, getmain_done};
+ghost use Rattle.rules.specs.Getmain.{getmain_good, wanted, getmain_verdict, getmain_done};
 ghost use Rattle.storage.specs.Stored.{areas_in, PackedAreas};
 ghost use Rattle.mainstorage.specs.Found.{place_for, reply_at, put_at};
 ghost use Rattle.tables.specs.Tables.{step_of, Packed};
 ghost use Rattle.tables.specs.Bodies.{told, body_of};
 
-use kinds::{Address, Area, Fault, MaybeAddress, Refusal, Reply, TaskNumber, Verdict};
+use kinds::{Address, Area, Fault, No, Refusal, Reply, TaskNumber};
 use storage::Storage;
 use tables::AllTables;
 use tables::made::{Made, goes, stays};
@@ -16,18 +16,20 @@ use tables::made::{Made, goes, stays};
 // The verdict on a request, and the place that the one search found for it.
 #[derive(Clone, Copy)]
 pub struct Found {
-    pub verdict: Verdict,
-    pub place: MaybeAddress,
+    pub verdict: Result<(), No>,
+    pub place: Option<Address>,
 }
 
 // 101.
+#[tactic(auto, unfolding(rules::specs::Getmain::getmain_good))]
 fn getmain_good(bytes: u32, subpool: u8) -> bool
     ensures { result ≡ getmain_good bytes subpool }
 {
-    Area::length_good(bytes) & Area::subpool_good(subpool)
+    Area::length_good(bytes) && Area::subpool_good(subpool)
 }
 
 // 107.
+#[tactic(auto, using(storage::proofs::Growing::length_live, lists::specs::Arrays::mapped_length))]
 fn is_full(s: Storage) -> bool
     requires { s.count ≤ most_areas }
     ensures { result ≡ leb most_areas (length (areas_in s)) }
@@ -36,21 +38,12 @@ fn is_full(s: Storage) -> bool
 }
 
 // The search.
-fn lowest_for(s: Storage, caller: TaskNumber, bytes: u32, subpool: u8) -> MaybeAddress
+#[tactic(auto, unfolding(rules::specs::Getmain::getmain_good))]
+fn lowest_for(s: Storage, caller: TaskNumber, bytes: u32, subpool: u8) -> Option<Address>
     requires { (s.count ≤ most_areas) × (getmain_good bytes subpool ≡ true) }
     ensures { result ≡ lowest (areas_in s) (wanted bytes subpool caller.0) }
 {
-    let want = crate::asked::area_at(Address(0), bytes, subpool, caller);
-    crate::room::lowest(s, want)
-}
-
-fn is_nowhere(place: MaybeAddress) -> bool
-    ensures { result ≡ is_nowhere place }
-{
-    match place {
-        MaybeAddress::At(a) => false,
-        MaybeAddress::Nowhere => true,
-    }
+    crate::room::lowest(s, crate::asked::area_at(Address(0), bytes, subpool, caller))
 }
 
 fn getmain_found(
@@ -64,73 +57,58 @@ fn getmain_found(
     ensures { (result.verdict ≡ getmain_verdict (areas_in s) caller bytes subpool conditional)
         × (result.place ≡ place_for (areas_in s) caller bytes subpool) }
 {
-    let mut place = MaybeAddress::Nowhere;
     if !getmain_good(bytes, subpool) {
         return Found {
-            verdict: Verdict::Refuse(Refusal::OutOfRange),
-            place,
+            verdict: Err(No::Refuse(Refusal::OutOfRange)),
+            place: None,
         };
     }
     if is_full(s) {
         return Found {
-            verdict: Verdict::Refuse(Refusal::NoAreaFree),
-            place,
+            verdict: Err(No::Refuse(Refusal::NoAreaFree)),
+            place: None,
         };
     }
-    place = lowest_for(s, caller, bytes, subpool);
-    if !conditional & is_nowhere(place) {
-        return Found {
-            verdict: Verdict::Fail(Fault::NoStorage),
-            place,
-        };
-    }
-    Found {
-        verdict: Verdict::Go,
-        place,
-    }
+    let place = lowest_for(s, caller, bytes, subpool);
+    let verdict = if !conditional && place.is_none() {
+        Err(No::Fail(Fault::NoStorage))
+    } else {
+        Ok(())
+    };
+    Found { verdict, place }
 }
 
 // The address that is answered, or 4.
-fn reply_at(place: MaybeAddress) -> Reply
+fn reply_at(place: Option<Address>) -> Reply
     ensures { result ≡ reply_at place }
 {
-    match place {
-        MaybeAddress::At(a) => Reply::Got(a),
-        MaybeAddress::Nowhere => Reply::Four,
-    }
+    place.map_or(Reply::Four, Reply::Got)
 }
 
 // The storage with the area asked for at the place found.
-fn put(s: Storage, caller: TaskNumber, bytes: u32, subpool: u8, place: MaybeAddress) -> Storage
+fn put(s: Storage, caller: TaskNumber, bytes: u32, subpool: u8, place: Option<Address>) -> Storage
     requires { PackedAreas s × (place ≡ place_for (areas_in s) caller bytes subpool) }
     ensures { result ≡ put_at place (wanted bytes subpool caller.0) s }
 {
     match place {
-        MaybeAddress::At(at) => {
-            let a = crate::asked::area_at(at, bytes, subpool, caller);
-            storage::insert(s, a)
-        }
-        MaybeAddress::Nowhere => s,
+        Some(at) => storage::insert(s, crate::asked::area_at(at, bytes, subpool, caller)),
+        None => s,
     }
 }
 
 // GETMAIN's tests and its search; where there is room, the area stands at the lowest address, which is answered.
+#[tactic(auto, using(tables::proofs::Bodies::bodies))]
 pub fn served(t: AllTables, caller: TaskNumber, bytes: u32, subpool: u8, conditional: bool) -> Made
     requires { Packed t }
     ensures { told result ≡ body_of (getmain_verdict (areas_in t.storage) caller bytes subpool conditional) t
         (getmain_done (step_of t) caller bytes subpool) }
 {
-    let s = t.storage;
-    let found = getmain_found(s, caller, bytes, subpool, conditional);
-    let place = found.place;
-    let verdict = found.verdict;
-    match verdict {
-        Verdict::Go => {
-            let next = put(s, caller, bytes, subpool, place);
-            let u = tables::put_storage(t, next);
-            goes(reply_at(place), u)
+    let found = getmain_found(t.storage, caller, bytes, subpool, conditional);
+    match found.verdict {
+        Ok(()) => {
+            let s = put(t.storage, caller, bytes, subpool, found.place);
+            goes(reply_at(found.place), tables::put_storage(t, s))
         }
-        Verdict::Refuse(why) => stays(Verdict::Refuse(why), t),
-        Verdict::Fail(what) => stays(Verdict::Fail(what), t),
+        Err(no) => stays(Err(no), t),
     }
 }

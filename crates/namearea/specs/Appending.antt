@@ -38,13 +38,19 @@ use Rattle.namearea.specs.Placing.{good_once}
 overlaid_none : (at : ℕ) (bytes : List ℕ) → overlaid at bytes [] ≡ bytes
 overlaid_none at bytes = take-append-drop at bytes
 
-overlaid_length : (at : ℕ) (bytes part : List ℕ) → at + length part ≤ length bytes
+pub overlaid_length : (at : ℕ) (bytes part : List ℕ) → at + length part ≤ length bytes
     → length (overlaid at bytes part) ≡ length bytes
 overlaid_length at bytes part h =
     let a = length-append (take at bytes) (part ++ drop (length part) (drop at bytes)) in
     let b = length-append part (drop (length part) (drop at bytes)) in
     let d = length-drop (length part) (drop at bytes) in
     omega (arith, length-take-le at bytes (omega arith), length-drop at bytes)
+
+-- a part that is put there
+pub overlaid_put : (at m : ℕ) (bytes new part : List ℕ) → new ≡ part → m ≡ length part
+    → take at bytes ++ (new ++ drop m (drop at bytes)) ≡ overlaid at bytes part
+overlaid_put at m bytes new part e f =
+    ap₂ (λ (k : ℕ) (r : List ℕ). take at bytes ++ (r ++ drop k (drop at bytes))) f e
 
 -- one part behind the other
 overlaid_more : (at : ℕ) (bytes s t : List ℕ) → at ≤ length bytes

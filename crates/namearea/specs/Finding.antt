@@ -1,7 +1,7 @@
 -- Where a name stands among those in use: what the offsets tell of it, entry by entry.
 use Rattle.std.specs.Prelude.{◌≡◌, refl, Bool, true, false, ◌&&◌, ◌||◌, ℕ, suc, ◌+◌, ◌≤◌, ◌<◌, take}
 use Rattle.std.proofs.Math.Path.{sym, ap, ap₂}
-use Rattle.std.proofs.Common.{◌∙◌, add-one, arith, get_or-take, take-suc, take-take}
+use Rattle.std.proofs.Common.{◌∙◌, eqb-true, take_at, drop_at, drop-drop, add-one, arith, get_or-take, take-suc, take-take}
 use Rattle.std.proofs.Math.Bool.{and-true, and-false, or-true}
 use mathlib.Core.List.{List, [], ◌∷◌, ◌++◌, map-append}
 use Rattle.std.proofs.Math.ListN.{length, get_or, drop, length-drop}
@@ -19,9 +19,9 @@ use Rattle.names.specs.Named.{resource_of}
 use Rattle.names.proofs.Shown.{shown_within}
 use Rattle.namearea.specs.There.{front_at}
 use Rattle.namearea.specs.Firsts.{is_in}
-use Rattle.namearea.specs.Spelling.{size_of, needed, offset_in, name_at}
+use Rattle.namearea.specs.Spelling.{spelt, size_of, needed, offset_in, name_at}
 use Rattle.namearea.specs.Offsets.{offset_longer, offset_inside, offset_out, offset_next, end_seen, end_new}
-use Rattle.namearea.specs.Scanning.{names_of, fits_at, fits_parts, fit_size}
+use Rattle.namearea.specs.Scanning.{names_of, fits_at, fits_parts, fit_whole, fit_size}
 use Rattle.namearea.specs.Pointing.{InUse, shown_by, name_of}
 
 -- The name at an offset, and one whose parts are given
@@ -39,6 +39,19 @@ module _ (bytes : List ℕ) (at : ℕ) (major minor : List ℕ) (size : ℕ) whe
       sym (ap (λ (t : Bool). same_bytes (take 8 (drop at bytes)) major && t)
       (same_lengths (take m (drop (at + 9) bytes)) (take size minor) (λ e. d (sym a ∙ e ∙ b)))
       ∙ and-false (same_bytes (take 8 (drop at bytes)) major))
+
+  -- the parts are compared in the bytes in which the name is spelt
+  pub shows_parts : fits_at bytes at ≡ true → (there : List ℕ) → there ≡ spelt (name_at bytes at)
+      → same_name (name_at bytes at) (name_of major minor size)
+      ≡ (same_bytes (take 8 there) major && same_bytes (drop 9 there) (take size minor))
+  shows_parts h there e =
+      let n = name_at bytes at in
+      let long : length n.major ≡ 8 = eqb-true (length n.major) 8 (fit_whole bytes at h) in
+      let back : List ℕ = length n.minor ∷ n.minor in
+      let a : take 8 there ≡ n.major = ap (take 8) e ∙ take_at n.major back 8 long in
+      let b : drop 9 there ≡ n.minor =
+      ap (drop 9) e ∙ sym (drop-drop 1 8 (n.major ++ back)) ∙ ap (drop 1) (drop_at n.major back 8 long) in
+      sym (ap₂ (λ (x y : List ℕ). same_bytes x major && same_bytes y (take size minor)) a b)
 
   -- of one length: the comparison of the minor parts, then that of the major parts
   module _ (k : ℕ) (b : Bool) (e : get_or bytes (at + 8) 0 ≡ size) (f : k ≡ size)

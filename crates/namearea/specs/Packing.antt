@@ -1,7 +1,7 @@
 -- Packing anew: the names that some offsets still show go to a fresh area, in the order of first entries, and each
 -- offset becomes what it is there.
-use Rattle.std.specs.Prelude.{◌≡◌, refl, Bool, true, false, ◌||◌, List, [], ◌∷◌, ◌++◌, ℕ, ◌+◌, ◌-◌, ◌≤◌, ◌<◌, eqb, length, get_or, take, drop, set, replicate}
-use Rattle.std.proofs.Common.{sym, ap, ap₂, ◌∙◌, append-nil, add-one, arith, length-drop, length-set, take-append-drop, drop_of_length-le, take_all, take-suc, take-suc-set, get_or-take, length-take-le}
+use Rattle.std.specs.Prelude.{◌≡◌, refl, Bool, true, false, Some, None, ◌||◌, List, [], ◌∷◌, ◌++◌, ℕ, ◌+◌, ◌-◌, ◌≤◌, ◌<◌, eqb, length, get_or, take, drop, set, replicate}
+use Rattle.std.proofs.Common.{sym, ap, ap₂, ◌∙◌, add-one, arith, length-set, take-append-drop, take_all, take-suc, take-suc-set, get_or-take, length-take-le, append-nil, length-drop, drop_of_length-le}
 use Rattle.std.proofs.lemmas.List.{map-append, length-map}
 use Rattle.lists.specs.Lists.{every, some}
 use Rattle.lists.specs.Bools.{both}
@@ -9,12 +9,12 @@ use Rattle.lists.specs.Filling.{map_at}
 use Rattle.lists.specs.Setting.{every_at_lem}
 use Rattle.lists.specs.Tables.{padded, padded_length}
 use Rattle.rules.specs.Names.{Resource, same_name, firsts}
-use Rattle.namearea.specs.There.{every_front, numbers_in, FirstOf, first_there, first_none}
+use Rattle.namearea.specs.There.{every_front, numbers_in, FirstOf, first_found, first_there, first_none}
 use Rattle.namearea.specs.Firsts.{is_in, firsts_seen}
-use Rattle.namearea.specs.Spelling.{spelling, needed, offset_in, name_at, whole, spelling_length}
-use Rattle.namearea.specs.Spelling.{spelling_one}
+use Rattle.namearea.specs.Spelling.{spelt, spelling, needed, offset_in, name_at, whole, spelling_length}
+use Rattle.namearea.specs.Spelling.{spelt_length, spelling_one}
 use Rattle.namearea.specs.Offsets.{offset_longer, offset_next, points_more, end_seen, end_new}
-use Rattle.namearea.specs.Scanning.{area_for, points_for, names_of, fits_at, fits_parts, fit_spelt, fit_size}
+use Rattle.namearea.specs.Scanning.{area_for, points_for, names_of, fits_at, fits_parts, fit_whole, fit_size}
 use Rattle.namearea.specs.Scanning.{fits_whole}
 use Rattle.namearea.specs.Room.{every_first}
 use Rattle.namearea.specs.Additions.{added, needed_added, appended}
@@ -116,12 +116,14 @@ module _ {size : ℕ} {old os : List ℕ} {i : ℕ} {to new : List ℕ} {at : �
   }
 
   -- an offset that was there gets what it got before
-  pub laid_seen : {j : ℕ} → FirstOf os i (get_or os i 0) j → j < i
+  pub laid_seen : {j : ℕ} → FirstOf os i (get_or os i 0) (Some j)
       → Laid size old os (i + 1) (set to i (get_or to j 0)) new at
-  laid_seen {j} f h =
-      let l : j < length (take i os) = omega (arith, length-take-le i os (omega arith)) in
-      let x : get_or (take i os) j 0 ≡ o = get_or-take i os j 0 h ∙ f.found h in
-      let k : is_in n ns ≡ true = seen_is ∙ first_there f (omega arith) h in
+  laid_seen {j} f =
+      let p = first_found f in
+      let l : j < length (take i os) = p.0 in
+      let h : j < i = omega (arith, l, length-take-le i os (omega arith)) in
+      let x : get_or (take i os) j 0 ≡ o = p.1 in
+      let k : is_in n ns ≡ true = seen_is ∙ first_there f in
       let v : get_or to j 0 ≡ offset_in (firsts ns) n =
       sym (get_or-take i to j 0 h) ∙ ap (λ (r : List ℕ). get_or r j 0) s.points
       ∙ map_at (offset_in (firsts ns)) ns j (name_at old 0) 0 (omega (arith, length-map (take i os) (name_at old)))
@@ -131,9 +133,9 @@ module _ {size : ℕ} {old os : List ℕ} {i : ℕ} {to new : List ℕ} {at : �
       (s.ends ∙ sym (end_seen ns n k))
 
   -- an offset that was not there: its name goes to the end
-  module _ {j : ℕ} (f : FirstOf os i (get_or os i 0) j) (none : i ≤ j) where
+  module _ (f : FirstOf os i (get_or os i 0) None) where
     out : is_in n ns ≡ false
-    out = seen_is ∙ first_none f none
+    out = seen_is ∙ first_none f
 
     end : at + (get_or old (o + 8) 0 + 9) ≡ needed (firsts (ns ++ (n ∷ [])))
     end = ap₂ (λ (a b : ℕ). a + b) s.ends (sym (fit_size old o fit)) ∙ sym (end_new ns n out)
@@ -142,25 +144,22 @@ module _ {size : ℕ} {old os : List ℕ} {i : ℕ} {to new : List ℕ} {at : �
     pub laid_room : at + (get_or old (get_or os i 0 + 8) 0 + 9) ≤ size
     laid_room = omega (arith, end, part_room (i + 1), ap (λ (l : List Resource). needed (firsts l)) next_names)
 
-    -- with the bytes that the code copies
-    pub laid_new : (m : ℕ) → m ≡ get_or old (get_or os i 0 + 8) 0 + 9 → (last : List ℕ)
-        → last ≡ take m (drop (get_or os i 0) old)
-        ++ drop (length (take m (drop (get_or os i 0) old))) (take (length new - at) (drop at new))
-        → Laid size old os (i + 1) (set to i at) (take at new ++ (last ++ drop (length new - at) (drop at new)))
-        (at + (get_or old (get_or os i 0 + 8) 0 + 9))
-    laid_new m e last g =
-        let part = spelling (added ns (n ∷ [])) in
+    -- with its bytes there
+    pub laid_new : (m : ℕ) (part : List ℕ) → part ≡ spelt (name_at old (get_or os i 0)) → m ≡ length part
+        → Laid size old os (i + 1) (set to i at) (take at new ++ (part ++ drop m (drop at new))) (at + length part)
+    laid_new m part e f =
+        let whole-part = spelling (added ns (n ∷ [])) in
         let alone : added ns (n ∷ []) ≡ n ∷ [] = rw out in
-        let p : take m (drop o old) ≡ part =
-        ap (λ (k : ℕ). take k (drop o old)) e ∙ fit_spelt old o fit ∙ sym (spelling_one n)
-        ∙ ap spelling (sym alone) in
-        laid_next at (take at new ++ (last ++ drop (length new - at) (drop at new)))
-        (at + (get_or old (o + 8) 0 + 9)) (s.ends ∙ sym (offset_next ns [] n out))
-        (put_mid at new (take m (drop o old)) last g
+        let p : part ≡ whole-part = e ∙ sym (spelling_one n) ∙ ap spelling (sym alone) in
+        let l : length part ≡ get_or old (o + 8) 0 + 9 =
+        ap length e ∙ spelt_length n (fit_whole old o fit) ∙ fit_size old o fit in
+        laid_next at (take at new ++ (part ++ drop m (drop at new))) (at + length part)
+        (s.ends ∙ sym (offset_next ns [] n out))
+        (ap (λ (k : ℕ). take at new ++ (part ++ drop k (drop at new))) f
         ∙ ap (λ (r : List ℕ). take at new ++ (r ++ drop (length r) (drop at new))) p
-        ∙ ap₂ (λ (a : ℕ) (b : List ℕ). take a b ++ (part ++ drop (length part) (drop a b))) s.ends s.area
+        ∙ ap₂ (λ (a : ℕ) (b : List ℕ). take a b ++ (whole-part ++ drop (length whole-part) (drop a b))) s.ends s.area
         ∙ appended size ns (n ∷ []) wholes)
-        end
+        (ap (λ (k : ℕ). at + k) l ∙ end)
 
 -- nothing yet
 pub laid_none : {size : ℕ} {old os to new : List ℕ} → length to ≡ length os → new ≡ replicate size 0

@@ -1,5 +1,5 @@
 -- The offsets of a list's names, name by name, and the names that stand for these by their offsets.
-use Rattle.std.specs.Prelude.{◌≡◌, refl, Bool, true, false, not, cond, ◌||◌, ℕ, suc, ◌+◌, ◌*◌, ◌≤◌, ◌<◌, length, get_or, take, drop, set}
+use Rattle.std.specs.Prelude.{◌≡◌, refl, Bool, true, false, not, Option, ◌||◌, ℕ, suc, ◌+◌, ◌*◌, ◌≤◌, ◌<◌, length, get_or, take, drop, set}
 use Rattle.std.proofs.Common.{sym, ap, subst, ◌∙◌, add-one, arith, length-set, take-suc, take-take, get_or-take}
 use Rattle.std.proofs.Math.Path.{ap₂}
 use Rattle.std.proofs.Math.Bool.{or-false}
@@ -7,6 +7,7 @@ use mathlib.Core.List.{List, [], ◌∷◌, ◌++◌, map, map-map, append-nil, 
 use Rattle.std.proofs.lemmas.List.{length-map}
 use Rattle.std.proofs.Math.Seq.{split_at, length-take-le}
 use Rattle.std.proofs.lemmas.Bool.{not-true}
+use Rattle.std.specs.Bool.{then_some}
 use Rattle.lists.specs.Lists.{every, distinct}
 use Rattle.lists.specs.Bools.{both}
 use Rattle.lists.specs.Every.{some_append}
@@ -30,11 +31,9 @@ use Rattle.names.proofs.Listed.{listed, good_legal, name_short}
 use Rattle.names.proofs.Shown.{shown_length}
 use Rattle.namearea.specs.Firsts.{is_in}
 use Rattle.namearea.specs.Spelling.{size_of, needed, offset_in}
-use Rattle.namearea.specs.Pointing.{stand_of, pointed_to, zero_pointed, with_list, points_to}
+use Rattle.namearea.specs.Pointing.{place_in, place_of, stand_of, pointed_to, zero_pointed, with_list, points_to}
 use Rattle.namearea.specs.Offsets.{offset_longer, offset_inside, offset_next, end_seen, end_new}
 use Rattle.namearea.specs.declared.points.Points.{Points}
-use Rattle.namearea.specs.declared.points.Place.{Place}
-use Rattle.namearea.specs.declared.points.Stand.{Stand}
 
 -- the names of a good list differ
 pub good_once : (l : Names) → names_good l ≡ true → distinct same_name (rules.names_of l) ≡ true
@@ -146,14 +145,18 @@ module _ {ns : List Resource} {l : NameList} {names : List Pointed} {from end i 
     ends : then ≡ needed (firsts (ns ++ front l (i + 1)))
     near : (at ≤ name_area + 53 * i) × (then ≤ name_area + 53 * (i + 1))
 
-  module _ (p : Place) (at : p.at ≡ offset_in (firsts ns) x) (there : p.there ≡ is_in x ns) where
-    stood : (b : Bool) → is_in x ns ≡ b → Stood (cond b p.at end) (cond b end (end + (w.name.length + 9)))
+  module _ (p : Option ℕ) (place : p ≡ place_of ns x) where
+    abbrev stand : Option ℕ → ℕ × ℕ
+    stand q = stand_of q end w.name.length
+
+    stood : (b : Bool) → is_in x ns ≡ b
+        → Stood (stand (then_some b (place_in ns x))).0 (stand (then_some b (place_in ns x))).1
     stood true h = record {
-      offset = at ∙ sym (offset_longer ns (rules.names_of (names_in l)) x h);
+      offset = sym (offset_longer ns (rules.names_of (names_in l)) x h);
       ends =
           s.ends
           ∙ sym (ap (λ (k : List Resource). needed (firsts k)) joined ∙ end_seen (ns ++ front l i) x (in_both true h));
-      near = (omega (arith, at, s.starts, s.low, offset_inside ns x h), omega (arith, s.near));
+      near = (omega (arith, s.starts, s.low, offset_inside ns x h), omega (arith, s.near));
     }
     stood false h = record {
       offset =
@@ -166,21 +169,17 @@ module _ {ns : List Resource} {l : NameList} {names : List Pointed} {from end i 
       near = (omega (arith, s.near), omega (arith, s.near, short));
     }
 
-    module _ (r : Stand) (is : r ≡ stand_of p end (get_or l.names i d).name.length) where
-      settled : Stood r.at r.end
-      settled =
-          subst (λ (t : Stand). Stood t.at t.end)
-          (sym (is ∙ ap {B = Stand}
-          (λ (b : Bool). record { at = cond b p.at end; end = cond b end (end + (w.name.length + 9)) }) there))
-          (stood (is_in x ns) refl)
+    module _ (r : ℕ × ℕ) (is : r ≡ stand_of p end (get_or l.names i d).name.length) where
+      settled : Stood r.0 r.1
+      settled = subst (λ (t : ℕ × ℕ). Stood t.0 t.1) (sym (is ∙ ap stand place)) (stood (is_in x ns) refl)
 
       -- its offset is low enough for two bytes
-      pub stand_low : r.at ≤ name_area + 53 * i
+      pub stand_low : r.0 ≤ name_area + 53 * i
       stand_low = settled.near.0
 
       -- it has its offset
-      pub pointing_next : (v : Pointed) → v.exclusive ≡ (get_or l.names i d).exclusive → v.name.0 ≡ r.at
-          → Pointing ns l (set names i v) from r.end (i + 1)
+      pub pointing_next : (v : Pointed) → v.exclusive ≡ (get_or l.names i d).exclusive → v.name.0 ≡ r.0
+          → Pointing ns l (set names i v) from r.1 (i + 1)
       pointing_next v f g = record {
         within = omega arith;
         few = s.few;

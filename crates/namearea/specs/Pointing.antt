@@ -1,5 +1,6 @@
 -- Where the names beside a request lie, or would come to lie: behind the names in use.
-use Rattle.std.specs.Prelude.{◌≡◌, Bool, true, false, cond, List, [], ◌∷◌, ◌++◌, map, ℕ, ◌+◌, ◌≤◌, ltb, length, take, drop}
+use Rattle.std.specs.Prelude.{◌≡◌, Bool, true, false, cond, Option, Some, None, List, [], ◌∷◌, ◌++◌, map, ℕ, ◌+◌, ◌≤◌, ltb, length, take, drop}
+use Rattle.std.specs.Bool.{then_some}
 use Rattle.lists.specs.Lists.{every}
 use Rattle.lists.specs.Tables.{padded}
 use Rattle.kinds.specs.Limits.{longest_list, name_area}
@@ -9,11 +10,10 @@ use Rattle.kinds.specs.declared.names.Wanted.{Wanted}
 use Rattle.rules.specs.Names as names
 use Rattle.rules.specs.Names.{Resource, Ask, same_name, firsts}
 use Rattle.names.specs.Named.{names_in}
+use Rattle.namearea.specs.Firsts.{is_in}
 use Rattle.namearea.specs.Spelling.{needed, offset_in, name_at}
 use Rattle.namearea.specs.Scanning.{names_of, fits_at, Kept}
 use Rattle.namearea.specs.declared.points.Points.{Points}
-use Rattle.namearea.specs.declared.points.Place.{Place}
-use Rattle.namearea.specs.declared.points.Stand.{Stand}
 
 -- the first n offsets show the names of the area, and nothing else is there
 pub record InUse (ats : List ℕ) (n : ℕ) (bytes : List ℕ) : Type 0 where
@@ -38,9 +38,14 @@ name_of major minor size = record { major = major; minor = take size minor }
 abbrev pub at_shows : List ℕ → ℕ → List ℕ → List ℕ → ℕ → Bool
 at_shows bytes at major minor size = same_name (name_at bytes at) (name_of major minor size)
 
+-- where a name stands, if it is one of these
+abbrev pub place_of : List Resource → Resource → Option ℕ
+place_of ns n = then_some (is_in n ns) (place_in ns n)
+
 -- where a name of the list comes to stand, and the end of the names with it
-abbrev pub stand_of : Place → ℕ → ℕ → Stand
-stand_of p end size = record { at = cond p.there p.at end; end = cond p.there end (end + (size + 9)) }
+abbrev pub stand_of : Option ℕ → ℕ → ℕ → ℕ × ℕ
+stand_of (Some at) end size = (at, end)
+stand_of None end size = (end, end + (size + 9))
 
 -- a name of a list, by where it stands among these
 abbrev pub pointed_to : List Resource → Ask → Pointed

@@ -1,14 +1,13 @@
 -- How many bytes names need at most.
-use Rattle.std.specs.Prelude.{◌≡◌, refl, Bool, true, false, not, cond, ◌||◌, List, [], ◌∷◌, ◌+◌, ◌*◌, ◌≤◌, ltb, leb, length}
+use Rattle.std.specs.Prelude.{◌≡◌, refl, Bool, true, false, not, cond, ◌||◌, List, [], ◌∷◌, ◌+◌, ◌*◌, ◌≤◌, leb, length}
 use Rattle.std.proofs.Common.{sym, ap, ◌∙◌, arith, leb-true}
 use Rattle.std.proofs.lemmas.Bool.{false≢true, not-true}
 use Rattle.lists.specs.Lists.{keep, every, some, distinct}
 use Rattle.lists.specs.Bools.{both, join, or_left, or_right}
-use Rattle.lists.specs.Pick.{chain_not}
 use Rattle.lists.specs.Every.{every_gives}
 use Rattle.lists.specs.Keeping.{every_keep, length_keep}
 use Rattle.kinds.specs.Limits.{longest_minor, most_entries, name_area}
-use Rattle.kinds.specs.Ranges.{minor_good, between}
+use Rattle.kinds.specs.Ranges.{minor_good}
 use Rattle.rules.specs.Names.{Resource, same_name, legal, firsts}
 use Rattle.laws.specs.SameNames.{name_eq}
 use Rattle.laws.specs.Grouping.{firsts_once, some_given}
@@ -93,10 +92,10 @@ pub legal_wholes : (ns : List Resource) → every legal ns ≡ true → every wh
 legal_wholes ns h = every_first whole ns (every_gives legal whole legal_whole ns h)
 
 legal_size : (n : Resource) → legal n ≡ true → size_of n ≤ longest_minor + 9
-unfolding legal between
+unfolding legal
 legal_size n h =
     let l = length n.minor in
-    let g = chain_not (ltb l 1) (leb l longest_minor) (both (whole n) (minor_good l) h).1 in
+    let g = both (leb 1 l) (leb l longest_minor) (both (whole n) (minor_good l) h).1 in
     omega (arith, leb-true l longest_minor g.1)
 
 legal_needed : (ns : List Resource) → every legal ns ≡ true → needed ns ≤ (longest_minor + 9) * length ns

@@ -1,5 +1,5 @@
 -- Settled offsets: in sound tables equal names are equal offsets, and what is left of the offsets can be packed anew.
-use Rattle.std.specs.Prelude.{◌≡◌, refl, Bool, true, false, cond, ◌||◌, List, [], ◌∷◌, ◌++◌, map, ℕ, ◌+◌, ◌-◌, ◌≤◌, eqb, length, replicate}
+use Rattle.std.specs.Prelude.{Option, Some, None, ◌≡◌, refl, Bool, true, false, cond, ◌||◌, List, [], ◌∷◌, ◌++◌, map, ℕ, ◌+◌, ◌-◌, ◌≤◌, eqb, length, replicate}
 use Rattle.std.proofs.Common.{sym, ap, ap₂, ◌∙◌, append-nil, arith, length-append, eqb-true, eq-eqb}
 use Rattle.std.proofs.lemmas.Bool.{false≢true}
 use Rattle.std.proofs.Math.Seq.{append_snoc}
@@ -15,8 +15,6 @@ use Rattle.namearea.specs.Scanning.{names_of, fits_at, scanned, Kept, name_there
 use Rattle.namearea.specs.Packing.{Clear}
 use Rattle.namearea.specs.Steps.{next_end, scan_from, scan_step, Walked, next_walked}
 use Rattle.namearea.specs.Room.{every_first, fewer_needed}
-use Rattle.namearea.specs.declared.scanning.Next.{Next}
-use Rattle.namearea.specs.declared.scanning.Next.TheVariants.{End, Bad}
 pub use Rattle.namearea.specs.Scanning.{fits_whole}
 
 -- Offsets in a list of names.
@@ -83,11 +81,11 @@ fits_from bytes before at (o ∷ os) w h =
     t : List ℕ
     t = before ++ (o ∷ [])
 
-    one : (n : Next) → n ≡ next_end bytes before at o → scan_from n bytes t os ≡ true
+    one : (n : Option ℕ) → n ≡ next_end bytes before at o → scan_from n bytes t os ≡ true
         → ((e : ℕ) → Walked bytes t e → scanned bytes t e os ≡ true → every (fits_at bytes) (t ++ os) ≡ true)
         → every (fits_at bytes) (t ++ os) ≡ true
-    one (End e) z k ih = ih e (next_walked w o e z) k
-    one Bad z k ih = absurd (false≢true k)
+    one (Some e) z k ih = ih e (next_walked w o e z) k
+    one None z k ih = absurd (false≢true k)
 
 -- where the test passes, each offset's name lies within the bytes
 pub kept_fits : (bytes os : List ℕ) → scanned bytes [] 0 os ≡ true → every (fits_at bytes) os ≡ true

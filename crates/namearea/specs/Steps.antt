@@ -1,13 +1,15 @@
 -- The test of the name area, as a loop makes it.
 use Rattle.std.proofs.Math.Path.{◌≡◌, refl, ap}
-use Rattle.std.proofs.Common.{sym, ap₂, ◌∙◌, add-one, arith, take-suc, drop-cons, get_or-take, get_or-drop}
-use Rattle.std.specs.Prelude.{Bool, ◌&&◌, List, [], ◌∷◌, ◌++◌, ℕ, suc, ◌+◌, ◌≤◌, ◌<◌, length, get_or, take, drop}
-use Rattle.std.proofs.Math.Bool.{true, false, and_assoc}
+use Rattle.std.proofs.Common.{sym, ap₂, ◌∙◌, add-one, arith, take-suc, get_or-take, get_or-drop, drop-cons}
+use Rattle.std.specs.Prelude.{Option, Some, None, Bool, ◌&&◌, ◌||◌, List, [], ◌∷◌, ◌++◌, ℕ, suc, ◌+◌, ◌-◌, ◌≤◌, ◌<◌, length, get_or, take, drop}
+use Rattle.std.proofs.Math.Bool.{true, false, and_assoc, and-true}
 use Rattle.std.proofs.Math.Dec.{eqb, ltb}
 use Rattle.std.proofs.Math.Seq.{slice, slice-cons, slice_empty}
 use borrow.Author.Tests.{eqb-true, eq-eqb, ne_eqb, ltb-true, lt-ltb}
+use Rattle.std.specs.Bool.{then_some}
+use Rattle.std.specs.List.{fold}
 use Rattle.lists.specs.Lists.{every, some, same_bytes}
-use Rattle.lists.specs.Bools.{join, same_test, not_so}
+use Rattle.lists.specs.Bools.{both, join, same_test, not_so}
 use Rattle.lists.specs.Every.{every_append, every_one, every_gives, some_of}
 use Rattle.lists.specs.Bytes.{same_bytes_eq}
 use Rattle.lists.specs.Loops.{Any, any_found, any_goes_on, any_over}
@@ -17,10 +19,8 @@ use Rattle.rules.specs.Names.{Resource, same_name}
 use Rattle.laws.specs.SameNames.{name_eq, eq_name, same_itself}
 use Rattle.namearea.specs.There.{front_at, all_below, below_out}
 use Rattle.namearea.specs.Firsts.{is_in}
-use Rattle.namearea.specs.Spelling.{spelt, size_of, name_at, whole, read_first}
+use Rattle.namearea.specs.Spelling.{spelt, size_of, name_at, whole, spelt_length, read_first}
 use Rattle.namearea.specs.Scanning.{names_of, fits_at, new_at, scanned, fits_parts, fit_spelt, fit_whole, fit_size}
-use Rattle.namearea.specs.declared.scanning.Next.{Next}
-use Rattle.namearea.specs.declared.scanning.Next.TheVariants.{End, Bad}
 
 -- The names at two offsets.
 
@@ -31,6 +31,31 @@ spelt_same x y h k =
     (λ e. let p : spelt x ≡ spelt y = same_bytes_eq (spelt x) (spelt y) e in
     eq_name x y (sym (read_first x [] h) ∙ ap (λ (l : List ℕ). name_at (l ++ []) 0) p ∙ read_first y [] k))
     (λ e. ap (λ (z : Resource). same_bytes (spelt x) (spelt z)) (sym (name_eq x y e)) ∙ same_itself (spelt x))
+
+-- bytes are not those in which a name is spelt where their length or the last of them tells it
+pub not_spelt : (bytes : List ℕ) (o : ℕ) (name : List ℕ) → fits_at bytes o ≡ true
+    → (get_or bytes (o + 8) 0 + 8 ≡ length name - 1
+    → get_or bytes (o + (length name - 1)) 0 ≡ get_or name (length name - 1) 0 → ⊥)
+    → same_bytes name (spelt (name_at bytes o)) ≡ false
+not_spelt bytes o name h d =
+    not_so (same_bytes name (spelt (name_at bytes o)))
+    (λ e. let q : name ≡ spelt (name_at bytes o) = same_bytes_eq name (spelt (name_at bytes o)) e in
+    let size : ℕ = get_or bytes (o + 8) 0 + 9 in
+    let i : ℕ = length name - 1 in
+    let l : length name ≡ size =
+    ap length q ∙ spelt_length (name_at bytes o) (fit_whole bytes o h) ∙ fit_size bytes o h in
+    d (omega arith)
+    (sym (get_or-drop o bytes i 0) ∙ sym (get_or-take size (drop o bytes) i 0 (omega arith))
+    ∙ ap (λ (r : List ℕ). get_or r i 0) (fit_spelt bytes o h ∙ sym q)))
+
+-- a name is among those that offsets show where it is spelt as one of them
+pub spelt_among : (bytes : List ℕ) (n : Resource) (os : List ℕ) → whole n ≡ true → every (fits_at bytes) os ≡ true
+    → some (λ (o : ℕ). same_bytes (spelt n) (spelt (name_at bytes o))) os ≡ is_in n (names_of bytes os)
+spelt_among bytes n [] h k = refl
+spelt_among bytes n (o ∷ os) h k =
+    let b = both (fits_at bytes o) (every (fits_at bytes) os) k in
+    ap₂ (λ (s t : Bool). s || t) (spelt_same n (name_at bytes o) h (fit_whole bytes o b.0))
+    (spelt_among bytes n os h b.1)
 
 module _ (bytes : List ℕ) (a b : ℕ) (h : fits_at bytes a ≡ true) (k : fits_at bytes b ≡ true) where
   -- they are one where their bytes are
@@ -105,15 +130,15 @@ module _ {ats : List ℕ} {n : ℕ} {bytes : List ℕ} {at i : ℕ} (s : Sought 
 -- One entry.
 
 -- where the names end, after one entry more
-unfoldable pub next_end : List ℕ → List ℕ → ℕ → ℕ → Next
+unfoldable pub next_end : List ℕ → List ℕ → ℕ → ℕ → Option ℕ
 next_end bytes before at o =
-    pick (some (eqb o) before) (End at)
-    (pick (new_at bytes before at o) (End (at + (get_or bytes (at + 8) 0 + 9))) Bad)
+    pick (some (eqb o) before) (Some at)
+    (pick (new_at bytes before at o) (Some (at + (get_or bytes (at + 8) 0 + 9))) None)
 
 -- the rest of the test from there
-abbrev pub scan_from : Next → List ℕ → List ℕ → List ℕ → Bool
-scan_from (End at) bytes before os = scanned bytes before at os
-scan_from Bad bytes before os = false
+abbrev pub scan_from : Option ℕ → List ℕ → List ℕ → List ℕ → Bool
+scan_from (Some at) bytes before os = scanned bytes before at os
+scan_from None bytes before os = false
 
 -- the test of some entries is that of the first, and then of the rest
 pub scan_step : (bytes before : List ℕ) (at o : ℕ) (os : List ℕ)
@@ -128,7 +153,7 @@ scan_step bytes before at o os = one (some (eqb o) before) (new_at bytes before 
     e = at + (get_or bytes (at + 8) 0 + 9)
 
     one : (a b : Bool) → pick a (scanned bytes t at os) (pick b (scanned bytes t e os) false)
-        ≡ scan_from (pick a (End at) (pick b (End e) Bad)) bytes t os
+        ≡ scan_from (pick a (Some at) (pick b (Some e) None)) bytes t os
     one true b = refl
     one false true = refl
     one false false = refl
@@ -141,33 +166,41 @@ pub record Walked (bytes before : List ℕ) (at : ℕ) : Type 0 where
 
 module _ {bytes before : List ℕ} {at : ℕ} (w : Walked bytes before at) (o : ℕ) where
   -- an offset that an earlier entry has
-  pub next_seen : some (eqb o) before ≡ true → End at ≡ next_end bytes before at o
+  pub next_seen : some (eqb o) before ≡ true → Some at ≡ next_end bytes before at o
   unfolding next_end pick
   next_seen h = rw h
 
   -- an offset that no earlier entry has, and that is not at the end
-  pub next_other : some (eqb o) before ≡ false → (o ≡ at → ⊥) → Bad ≡ next_end bytes before at o
+  pub next_other : some (eqb o) before ≡ false → (o ≡ at → ⊥) → None ≡ next_end bytes before at o
   unfolding next_end new_at pick
   next_other h d = rw (h, ne_eqb o at d)
+
+  -- an offset that is not at the end
+  pub next_apart : (o ≡ at → ⊥) → then_some (some (eqb o) before) at ≡ next_end bytes before at o
+  next_apart d = one (some (eqb o) before) refl
+    where
+      one : (b : Bool) → some (eqb o) before ≡ b → then_some b at ≡ next_end bytes before at o
+      one true h = next_seen h
+      one false h = next_other h d
 
   module _ (e : o ≡ at) where
     unseen : some (eqb o) before ≡ false
     unseen = ap (λ (x : ℕ). some (eqb x) before) e ∙ below_out at before w.low
 
     -- an offset at the end, where no name lies
-    pub next_out : fits_at bytes at ≡ false → Bad ≡ next_end bytes before at o
+    pub next_out : fits_at bytes at ≡ false → None ≡ next_end bytes before at o
     unfolding next_end new_at pick
     next_out f = rw (unseen, eq-eqb o at e, f)
 
     -- or one that an earlier entry shows
     pub next_named : fits_at bytes at ≡ true → is_in (name_at bytes at) (names_of bytes before) ≡ true
-        → Bad ≡ next_end bytes before at o
+        → None ≡ next_end bytes before at o
     unfolding next_end new_at pick
     next_named f n = rw (unseen, eq-eqb o at e, f, n)
 
     -- or a new one
     pub next_new : fits_at bytes at ≡ true → is_in (name_at bytes at) (names_of bytes before) ≡ false
-        → End (at + (get_or bytes (at + 8) 0 + 9)) ≡ next_end bytes before at o
+        → Some (at + (get_or bytes (at + 8) 0 + 9)) ≡ next_end bytes before at o
     unfolding next_end new_at pick
     next_new f n = rw (unseen, eq-eqb o at e, f, n)
 
@@ -183,12 +216,12 @@ module _ {bytes before : List ℕ} {at : ℕ} (w : Walked bytes before at) (o : 
   }
 
   -- where it goes on, the same holds with the entry
-  pub next_walked : (e : ℕ) → End e ≡ next_end bytes before at o → Walked bytes (before ++ (o ∷ [])) e
+  pub next_walked : (e : ℕ) → Some e ≡ next_end bytes before at o → Walked bytes (before ++ (o ∷ [])) e
   unfolding next_end new_at pick
   next_walked e h = one (some (eqb o) before) (new_at bytes before at o) refl refl h
     where
       one : (a b : Bool) → some (eqb o) before ≡ a → new_at bytes before at o ≡ b
-          → End e ≡ pick a (End at) (pick b (End (at + (get_or bytes (at + 8) 0 + 9))) Bad)
+          → Some e ≡ pick a (Some at) (pick b (Some (at + (get_or bytes (at + 8) 0 + 9))) None)
           → Walked bytes (before ++ (o ∷ [])) e
       one true b x y z =
           let g : e ≡ at = cc in
@@ -224,7 +257,7 @@ turn_first h = record {
 
 module _ {bytes os : List ℕ} {n i at : ℕ} (t : Turn bytes os n i at) where
   -- with what the next entry gives
-  module _ (h : i < n) (r : Next) (g : r ≡ next_end bytes (take i os) at (get_or os i 0)) where
+  module _ (h : i < n) (r : Option ℕ) (g : r ≡ next_end bytes (take i os) at (get_or os i 0)) where
     taken : take (i + 1) os ≡ take i os ++ (get_or os i 0 ∷ [])
     taken = rw (add-one) (take-suc os i 0 (omega (arith, t.few)))
 
@@ -235,11 +268,11 @@ module _ {bytes os : List ℕ} {n i at : ℕ} (t : Turn bytes os n i at) where
         ∙ rw (taken, add-one, g)
 
     -- an entry that fails
-    pub turn_ends : r ≡ Bad → false ≡ scanned bytes [] 0 (take n os)
+    pub turn_ends : r ≡ None → false ≡ scanned bytes [] 0 (take n os)
     turn_ends e = sym (rw e at goes)
 
     -- an entry that passes
-    pub turn_goes : (e : ℕ) → r ≡ End e → Turn bytes os n (i + 1) e
+    pub turn_goes : (e : ℕ) → r ≡ Some e → Turn bytes os n (i + 1) e
     turn_goes e f = record {
       within = omega arith;
       few = t.few;
@@ -254,7 +287,12 @@ module _ {bytes os : List ℕ} {n i at : ℕ} (t : Turn bytes os n i at) where
       t.left ∙ ap (λ (j : ℕ). scanned bytes (take j os) at (slice j n os)) e
       ∙ ap (scanned bytes (take n os) at) (slice_empty n os)
 
--- The bytes behind the names: one more is looked at.
+-- The bytes behind the names: what is known of those before, and the test of each of the rest.
+pub fold_every : (f : ℕ → Bool) (b : Bool) (l : List ℕ) → fold (λ (a : Bool) (x : ℕ). a && f x) b l ≡ (b && every f l)
+fold_every f b [] = sym (and-true b)
+fold_every f b (x ∷ l) = fold_every f (b && f x) l ∙ and_assoc b (f x) (every f l)
+
+-- one more is looked at
 pub zero_more : (f : ℕ → Bool) (l : List ℕ) (i : ℕ) (b : Bool) → i < length l
     → (b && every f (drop i l)) ≡ ((b && f (get_or l i 0)) && every f (drop (i + 1) l))
 zero_more f l i b h =

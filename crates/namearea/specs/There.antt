@@ -1,9 +1,11 @@
 -- What stands in a list: its elements, those of its front, and what a change makes of them.
-use Rattle.std.specs.Prelude.{◌≡◌, refl, Bool, true, false, ◌||◌, List, [], ◌∷◌, map, ℕ, zero, suc, ◌≤◌, ◌<◌, eqb, ltb, length, get_or, take}
-use Rattle.std.proofs.Common.{sym, ap, ap₂, ◌∙◌, arith, get_or-take, length-take-le, eqb-true, eq-eqb, ne_eqb, ltb-true}
+use Rattle.std.specs.Prelude.{◌≡◌, refl, Bool, true, false, not, cond, Option, Some, None, ◌||◌, List, [], ◌∷◌, map, ℕ, zero, suc, ◌+◌, ◌≤◌, ◌<◌, eqb, ltb, length, get_or, take}
+use Rattle.std.proofs.Common.{sym, ap, ap₂, ◌∙◌, arith, get_or-take, length-take-le, eqb-true, eq-eqb, ne_eqb, ltb-true, ltb-false}
+use Rattle.std.specs.List.{position, position_or_len}
+use Rattle.std.proofs.lemmas.List.Quantifiers.{position-Some}
 use Rattle.std.proofs.Math.Bool.{or-true}
 use Rattle.lists.specs.Lists.{every, some}
-use Rattle.lists.specs.Bools.{both, join}
+use Rattle.lists.specs.Bools.{both, join, same_test}
 use Rattle.lists.specs.Every.{every_gives, every_one, every_of}
 use Rattle.lists.specs.Setting.{every_at_lem}
 
@@ -38,23 +40,47 @@ module _ {A : Type 0} where
 pub numbers_in : (os : List ℕ) → every (λ (o : ℕ). some (eqb o) os) os ≡ true
 numbers_in os = all_in eqb (λ o. eq-eqb o o refl) os
 
--- the first of n numbers that is o, or n
-pub record FirstOf (os : List ℕ) (n o r : ℕ) : Type 0 where
-  pub within : r ≤ n
-  pub found : r < n → get_or os r 0 ≡ o
-  pub never : r ≡ n → some (eqb o) (take n os) ≡ false
+-- a test that finds no place holds of no element
+never_found : (p : ℕ → Bool) (os : List ℕ) → length os ≤ position_or_len p os → some p os ≡ false
+never_found p [] h = refl
+never_found p (x ∷ os) h = one (p x) (never_found p os) h
+  where
+    one : (b : Bool) → (length os ≤ position_or_len p os → some p os ≡ false)
+        → suc (length os) ≤ cond (not b) (1 + position_or_len p os) 0 → (b || some p os) ≡ false
+    one true f k = absurd (omega arith)
+    one false f k = f (omega arith)
 
-module _ {os : List ℕ} {n o r : ℕ} (f : FirstOf os n o r) where
-  -- a first one is there
-  pub first_there : n ≤ length os → r < n → some (eqb o) (take n os) ≡ true
-  first_there h k =
-      ap (λ (x : ℕ). some (eqb x) (take n os)) (sym (get_or-take n os r 0 k ∙ f.found k))
-      ∙ every_at_lem (λ (x : ℕ). some (eqb x) (take n os)) (take n os) r 0 (numbers_in (take n os))
-      (omega (arith, length-take-le n os h))
+-- whether it is there, asked the other way round
+pub turned : (o : ℕ) (os : List ℕ) → some (λ (x : ℕ). eqb x o) os ≡ some (eqb o) os
+turned o [] = refl
+turned o (x ∷ os) =
+    ap₂ ◌||◌
+    (same_test (eqb x o) (eqb o x) (λ e. eq-eqb o x (sym (eqb-true x o e))) (λ e. eq-eqb x o (sym (eqb-true o x e))))
+    (turned o os)
 
-  -- without a first one there is none
-  pub first_none : n ≤ r → some (eqb o) (take n os) ≡ false
-  first_none h = f.never (omega (arith, f.within))
+-- the place of the first of n numbers that is o, if any is
+pub record FirstOf (os : List ℕ) (n o : ℕ) (r : Option ℕ) : Type 0 where
+  pub is : r ≡ position (eqb o) (take n os)
+
+-- a first one is there
+module _ {os : List ℕ} {n o j : ℕ} (f : FirstOf os n o (Some j)) where
+  pub first_found : (j < length (take n os)) × (get_or (take n os) j 0 ≡ o)
+  first_found =
+      let p = position-Some (eqb o) (take n os) j 0 (sym f.is) in (p.0, sym (eqb-true o (get_or (take n os) j 0) p.1))
+
+  pub first_there : some (eqb o) (take n os) ≡ true
+  first_there =
+      ap (λ (x : ℕ). some (eqb x) (take n os)) (sym first_found.1)
+      ∙ every_at_lem (λ (x : ℕ). some (eqb x) (take n os)) (take n os) j 0 (numbers_in (take n os)) first_found.0
+
+-- without a first one there is none
+pub first_none : {os : List ℕ} {n o : ℕ} → FirstOf os n o None → some (eqb o) (take n os) ≡ false
+first_none {os} {n} {o} f = one (ltb (position_or_len (eqb o) (take n os)) (length (take n os))) refl f.is
+  where
+    one : (b : Bool) → ltb (position_or_len (eqb o) (take n os)) (length (take n os)) ≡ b
+        → None ≡ cond b (Some (position_or_len (eqb o) (take n os))) None → some (eqb o) (take n os) ≡ false
+    one true e k = cc
+    one false e k = never_found (eqb o) (take n os) (ltb-false _ _ e)
 
 module _ {A B : Type 0} where
   -- two changes that agree on all that is there make one list

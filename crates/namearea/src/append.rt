@@ -7,17 +7,8 @@ ghost use Rattle.names.specs.Named.{resource_of, names_in};
 ghost use Rattle.namearea.specs.Spelling.{spelt, size_of, spelling};
 ghost use Rattle.namearea.specs.Pointing.{overlaid, new_names};
 
-use crate::packing::put;
 use crate::points::Points;
 use kinds::{Name, NameList};
-
-// The bytes go over those from the place on.
-fn put_at(bytes: &mut [u8], at: usize, part: &[u8])
-    requires { at + length part.now ≤ length bytes.old }
-    ensures { bytes.new ≡ overlaid at bytes.old part.now }
-{
-    put(&mut bytes[at..], part);
-}
 
 // A name is spelt at the place: the major part, the minor part's length, the minor part.
 fn spell(bytes: &mut [u8], at: usize, name: Name) -> usize
@@ -26,12 +17,10 @@ fn spell(bytes: &mut [u8], at: usize, name: Name) -> usize
     ensures bytes_after { bytes.new ≡ overlaid at bytes.old (spelt (resource_of name)) }
     ensures value { result ≡ at + size_of (resource_of name) }
 {
-    let major = name.major;
-    let minor = name.minor;
     let size = name.length as usize;
-    put_at(bytes, at, &major);
+    bytes[at..at + 8].copy_from_slice(&name.major);
     bytes[at + 8] = name.length as u8;
-    put_at(bytes, at + 9, &minor[..size]);
+    bytes[at + 9..at + (size + 9)].copy_from_slice(&name.minor[..size]);
     at + (size + 9)
 }
 
@@ -42,19 +31,10 @@ pub fn append(bytes: &mut [u8], l: NameList, p: Points)
     requires l_bound { p.from + length (spelling (new_names p l)) ≤ name_area }
     ensures { bytes.new ≡ overlaid p.from bytes.old (spelling (new_names p l)) }
 {
-    let from = p.from;
-    let list = p.list;
-    let k = l.count as usize;
-    let mut at = from;
-    let mut i = 0;
-    while i < k {
-        let w = l.names[i];
-        let q = list.names[i];
-        let o = q.name;
-        i += 1;
-        if from <= o.0 as usize {
-            let name = w.name;
-            at = spell(bytes, at, name);
+    let mut at = p.from;
+    for (i, w) in l.names[..l.count as usize].iter().enumerate() {
+        if p.from <= p.list.names[i].name.0 as usize {
+            at = spell(bytes, at, w.name);
         }
     }
 }

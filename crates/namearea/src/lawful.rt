@@ -13,13 +13,7 @@ fn lawful_at(bytes: &[u8], o: usize) -> bool
     requires { (length bytes.now ≤ name_area) × (fits_at bytes.now o ≡ true) }
     ensures { result ≡ lawful (name_at bytes.now o) }
 {
-    let n = bytes[o + 8];
-    if !Name::minor_good(n as u16) {
-        return false;
-    }
-    let system = Name::SYSTEM;
-    let end = o + system.len();
-    !lists::same_bytes(&bytes[o..end], &system)
+    Name::minor_good(bytes[o + 8] as u16) && !bytes[o..].starts_with(&Name::SYSTEM)
 }
 
 // Every name that the first n offsets show is lawful: its minor part is neither empty nor too long, and it is no
@@ -29,13 +23,5 @@ pub fn names_lawful(ats: &[u16], n: usize, bytes: &[u8]) -> bool
         × (every (fits_at bytes.now) (take n ats.now) ≡ true) }
     ensures { result ≡ every lawful (names_of bytes.now (take n ats.now)) }
 {
-    let mut i = 0;
-    while i < n {
-        let o = ats[i];
-        if !lawful_at(bytes, o as usize) {
-            return false;
-        }
-        i += 1;
-    }
-    true
+    ats[..n].iter().all(|o| lawful_at(bytes, *o as usize))
 }

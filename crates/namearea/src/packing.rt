@@ -1,21 +1,17 @@
 // The names that offsets still show, packed anew.
-ghost use Rattle.std.specs.Prelude.{◌≡◌, ◌++◌, ◌+◌, ◌≤◌, ◌<◌, length, drop, replicate};
+ghost use Rattle.std.specs.Prelude.{◌≡◌, ◌+◌, ◌≤◌, ◌<◌, length, replicate};
+ghost use Rattle.namearea.specs.There.{FirstOf};
 ghost use Rattle.namearea.specs.Scanning.{area_for, points_for, names_of};
 ghost use Rattle.namearea.specs.Packing.{Clear, Laid};
 
-use crate::scanning::first_of;
+use crate::scanning::spelt_at;
 
-// The bytes go to the front.
-pub(crate) fn put(to: &mut [u8], from: &[u8])
-    requires { length from.now ≤ length to.old }
-    ensures { to.new ≡ from.now ++ drop (length from.now) to.old }
+// The place of the first of n offsets that is o.
+fn first_of(ats: &[u16], n: usize, o: u16) -> Option<usize>
+    requires { n ≤ length ats.now }
+    ensures { FirstOf ats.now n o result }
 {
-    let mut i = 0;
-    while i < from.len() {
-        let b = from[i];
-        to[i] = b;
-        i += 1;
-    }
+    ats[..n].iter().position(|x| o == *x)
 }
 
 // One offset more: where its name stands already, or at the end of the names so far, where it is put.
@@ -25,19 +21,15 @@ fn lay(ats: &[u16], i: usize, old: &[u8], to: &mut [u16], new: &mut [u8], at: us
     ensures { Laid 16384 old.now ats.now (i + 1) to.new new.new result }
 {
     let o = ats[i];
-    let j = first_of(ats, i, o);
-    if j < i {
-        let p = to[j];
-        to[i] = p;
+    if let Some(j) = first_of(ats, i, o) {
+        to[i] = to[j];
         return at;
     }
-    let from = o as usize;
-    let n = old[from + 8];
-    let size = n as usize + 9;
-    let end = from + size;
-    put(&mut new[at..], &old[from..end]);
+    let name = spelt_at(old, o as usize);
+    let end = at + name.len();
+    new[at..end].copy_from_slice(name);
     to[i] = at as u16;
-    at + size
+    end
 }
 
 // The names that the offsets show, packed anew in the order of first entries, and the offsets that they then have.
@@ -48,9 +40,7 @@ pub fn repack(ats: &[u16], old: &[u8], to: &mut [u16], new: &mut [u8])
         × (new.new ≡ area_for 16384 (names_of old.now ats.now)) }
 {
     let mut at = 0;
-    let mut i = 0;
-    while i < ats.len() {
+    for i in 0..ats.len() {
         at = lay(ats, i, old, to, new, at);
-        i += 1;
     }
 }

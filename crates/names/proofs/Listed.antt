@@ -1,5 +1,5 @@
 -- The names beside a request, as the loops over their array find them.
-use mathlib.Core.Path.{◌≡◌, sym, ap, ◌∙◌}
+use mathlib.Core.Path.{◌≡◌, refl, sym, ap, ◌∙◌}
 use mathlib.Core.Bool.{Bool, true}
 use mathlib.Core.List.{map, map-map}
 use Prim.Native.Nat.{ℕ, ◌≤◌, ◌<◌}
@@ -7,8 +7,9 @@ use native.Mathlib.Omega.{arith}
 use lib.Dec.{eqb}
 use lib.ListN.{length, get_or, take, length-map, get_or-map}
 use lib.Seq.{get_or-take, length-take-le}
-use Rattle.lists.specs.Lists.{every, some}
+use Rattle.lists.specs.Lists.{every, some, distinct}
 use Rattle.lists.specs.Loops.{all_shown, any_shown}
+use Rattle.lists.specs.Once.{distinct_map}
 use Rattle.lists.specs.Keeping.{take_map}
 use Rattle.lists.specs.Setting.{every_at_lem}
 use Rattle.lists.specs.Bools.{both}
@@ -18,8 +19,8 @@ use Rattle.kinds.specs.Ranges.{count_good}
 use Rattle.kinds.specs.Within.{within}
 use Rattle.kinds.specs.declared.names.Wanted.{Wanted}
 use Rattle.kinds.specs.declared.names.NameList.{NameList}
-use Rattle.rules.specs.Names.{Resource, Names, legal, name_of, names_of, names_good}
-use Rattle.names.specs.Named.{ask_of, wanted_name, names_in}
+use Rattle.rules.specs.Names.{Resource, Names, same_name, legal, name_of, names_of, names_good}
+use Rattle.names.specs.Named.{ask_of, wanted_name, same_wanted, names_in}
 use Rattle.names.proofs.Shown.{shown_length}
 
 pub listed : (l : NameList) → names_of (names_in l) ≡ take l.count (map wanted_name l.names)
@@ -34,6 +35,13 @@ every_listed f l = all_shown wanted_name f l.count l.names ∙ ap (every f) (sym
 pub some_listed : (f : Resource → Bool) (l : NameList)
     → some (λ (w : Wanted). f (wanted_name w)) (take l.count l.names) ≡ some f (names_of (names_in l))
 some_listed f l = any_shown wanted_name f l.count l.names ∙ ap (some f) (sym (listed l))
+
+-- no name is twice among those within the count
+pub distinct_listed : (l : NameList)
+    → distinct same_wanted (take l.count l.names) ≡ distinct same_name (names_of (names_in l))
+distinct_listed l =
+    sym (distinct_map wanted_name same_wanted same_name (λ v w. refl) (take l.count l.names))
+    ∙ ap (distinct same_name) (sym (take_map wanted_name l.count l.names) ∙ sym (listed l))
 
 -- a good count
 pub count_few : (n : ℕ) → count_good n ≡ true → n ≤ longest_list

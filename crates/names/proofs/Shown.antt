@@ -1,13 +1,13 @@
 -- Laws of the bytes that are shown, and of the comparison of two names.
 use mathlib.Core.Path.{◌≡◌, refl, sym, ap, ◌∙◌}
 use mathlib.Core.Bool.{Bool, true, false, ◌&&◌, and-false}
-use mathlib.Core.List.{List, [], ◌∷◌, ◌++◌, append_assoc}
+use mathlib.Core.List.{List, [], ◌∷◌, ◌++◌}
 use Prim.Native.Nat.{ℕ, zero, suc, min, ◌≤◌}
 use native.Mathlib.Nat.{zero-min, min-zero, suc-min-suc}
 use native.Mathlib.Omega.{arith}
 use lib.Dec.{eqb}
 use lib.ListN.{length, take, replicate, length-take, length-append, length-replicate}
-use lib.Seq.{take-append-le, take_at}
+use lib.Seq.{take-append-le}
 use borrow.Author.Tests.{eq-eqb}
 use Rattle.lists.specs.Lists.{same_bytes}
 use Rattle.lists.specs.Bytes.{same_lengths}
@@ -25,15 +25,6 @@ shown_length n l = rw (length-take, length-append, length-replicate) (omega arit
 pub shown_within : (n : ℕ) (l : List ℕ) → n ≤ length l → shown n l ≡ take n l
 unfolding shown
 shown_within n l h = take-append-le n l (replicate n 0) h
-
--- bytes that stand in front of others are shown again
-pub shown_front : (l r : List ℕ) → shown (length l) (l ++ r) ≡ l
-unfolding shown
-shown_front l r = rw append_assoc (take_at l (r ++ replicate (length l) 0) (length l) refl)
-
--- as many as are used are there
-pub used_within : (l : List ℕ) (u n : ℕ) → length l ≡ longest_minor → u ≡ min n longest_minor → u ≤ length l
-used_within l u n h e = omega arith
 
 same_self : (l : List ℕ) → same_bytes l l ≡ true
 same_self [] = refl

@@ -21,7 +21,7 @@ pub same_pointer : (a b : ℕ) → same_name (pointer a) (pointer b) ≡ eqb a b
 same_pointer a b = and-true (eqb a b && true) ∙ and-true (eqb a b)
 
 pub lawful_pointer : (o : ℕ) → lawful (pointer o) ≡ true
-unfolding lawful legal is_system between pick
+unfolding lawful legal is_system pick
 lawful_pointer o = ap not (and-false (eqb o 0xE2))
 
 -- the names beside a request, by their offsets

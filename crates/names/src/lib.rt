@@ -14,29 +14,17 @@ use kinds::Name;
 fn used(length: u16) -> usize
     ensures { result ≡ min length longest_minor }
 {
-    if length < Name::LONGEST as u16 {
-        length as usize
-    } else {
-        Name::LONGEST
-    }
+    Name::LONGEST.min(length as usize)
 }
 
 // Lengths first, then the minor parts: most names that differ differ there.
 pub fn same_name(a: Name, b: Name) -> bool
     ensures { result ≡ same_name (resource_of a) (resource_of b) }
 {
-    if a.length != b.length {
-        return false;
-    }
     let n = used(a.length);
-    let ai = a.minor;
-    let bi = b.minor;
-    if !lists::same_bytes(&ai[..n], &bi[..n]) {
-        return false;
-    }
-    let am = a.major;
-    let bm = b.major;
-    lists::same_bytes(&am, &bm)
+    a.length == b.length
+        && lists::same_bytes(&a.minor[..n], &b.minor[..n])
+        && lists::same_bytes(&a.major, &b.major)
 }
 
 // The major part is as long as its array, so only the minor part's length is to be tested.
@@ -50,8 +38,5 @@ pub fn is_legal(n: Name) -> bool
 pub fn is_system(n: Name) -> bool
     ensures { result ≡ is_system (resource_of n) }
 {
-    let major = n.major;
-    let system = Name::SYSTEM;
-    let k = system.len();
-    lists::same_bytes(&major[..k], &system)
+    n.major.starts_with(&Name::SYSTEM)
 }

@@ -1,17 +1,17 @@
 -- Which tasks lack control, entry by entry: the search for an entry that bars, and the marks.
-use mathlib.Core.Path.{◌≡◌, refl, sym, ap, ap₂, ◌∙◌}
-use mathlib.Core.Bool.{Bool, true, false, not, ◌&&◌, ◌||◌, or-false, or_assoc, and-true, and-false, false≢true}
+use mathlib.Core.Path.{◌≡◌, refl, sym, ap, ◌∙◌}
+use mathlib.Core.Bool.{Bool, true, false, not, ◌&&◌, ◌||◌, or-false, or_assoc, and-false}
 use mathlib.Core.List.{List, [], ◌∷◌, ◌++◌, map, append-nil}
-use Prim.Native.Nat.{ℕ, ◌+◌, ◌≤◌, ◌<◌}
+use Prim.Native.Nat.{ℕ, ◌+◌, ◌<◌}
 use native.Mathlib.Numerals.{add-one}
 use native.Mathlib.Omega.{arith}
-use lib.Dec.{eqb, ltb}
+use lib.Dec.{eqb}
 use lib.ListN.{length, take, get_or, set, length-map, length-set, length-replicate, get_or-replicate, get_or-map}
-use lib.Seq.{slice, slice_empty, take-suc, append_snoc, get_or-set_same, get_or-set_other, set_out}
-use borrow.Author.Tests.{eqb-true, eqb-false, ltb-true, ltb-false}
+use Rattle.std.proofs.lemmas.List.{set-get_or}
+use lib.Seq.{take-suc, append_snoc, get_or-set_same, get_or-set_other}
+use borrow.Author.Tests.{eqb-true, eqb-false}
 use Rattle.lists.specs.Lists.{every}
-use Rattle.lists.specs.Bools.{both}
-use Rattle.lists.specs.Every.{slice_view}
+use Rattle.lists.specs.Loops.{all_shown}
 use Rattle.kinds.specs.Limits.{highest_task}
 use Rattle.kinds.specs.declared.names.Slot.{Slot}
 use Rattle.rules.specs.Control.{Entry, of_task, control, lacks_from, lacks}
@@ -20,6 +20,12 @@ use Rattle.laws.specs.Control.{free, control_each}
 use Rattle.queue.specs.Queues.{entry_of}
 use Rattle.queue.specs.Marking.{mark_at, no_marks, lacks_among, with_mark, Marked}
 use Rattle.queue.specs.declared.marks.Marks.{Marks}
+
+-- an entry that none of those before it bars has control
+pub none_bars-control : (e : Entry) (n : ℕ) (l : List Slot)
+    → every (λ (x : Slot). not (bars (entry_of x) e)) (take n l) ≡ control (take n (map entry_of l)) e
+unfolding free
+none_bars-control e n l = all_shown entry_of (free e) n l ∙ sym (control_each (take n (map entry_of l)) e)
 
 -- one more entry: whoever lacked control lacks it, and its task too where it has none
 pub lacks_append : (t : ℕ) (p l : List Entry) (e : Entry)
@@ -33,50 +39,6 @@ lacks_append t p (x ∷ l) e =
     ∙ ap (λ (r : List Entry). lacks_from t (p ++ (x ∷ [])) l || (of_task t e && not (control r e))) (append_snoc p x l))
     ∙ sym (or_assoc (of_task t x && not (control p x)) (lacks_from t (p ++ (x ∷ [])) l)
     (of_task t e && not (control (p ++ (x ∷ l)) e)))
-
--- the search, behind the first i slots, for one that bars e: from place j on, while e is sought and none was found
-pub record Seeking (es : List Slot) (e : Entry) (i : ℕ) (sought : Bool) (j : ℕ) (so : Bool) : Type 0 where
-  pub yet : (not sought || control (take i (map entry_of es)) e)
-      ≡ (so && (not sought || every (free e) (slice j i (map entry_of es))))
-
-pub seek_start : (es : List Slot) (e : Entry) (i : ℕ) (sought : Bool) → Seeking es e i sought 0 true
-seek_start es e i sought =
-    record { yet = ap (λ (b : Bool). not sought || b) (control_each (take i (map entry_of es)) e) }
-
-pub seek_next : (es : List Slot) (e : Entry) (i j : ℕ) (d : Slot) (sought so b : Bool) → j < i → i ≤ length es
-    → sought ≡ true → so ≡ true
-    → b ≡ bars (entry_of (get_or es j d)) e → Seeking es e i sought j so → Seeking es e i sought (j + 1) (not b)
-unfolding free
-seek_next es e i j d true so b h k w s t v = record {
-  yet =
-      v.yet ∙ ap (λ (a : Bool). a && every (free e) (slice j i (map entry_of es))) s
-      ∙ ap (every (free e)) (slice_view entry_of es j i d h k)
-      ∙ ap (λ (a : Bool). not a && every (free e) (slice (j + 1) i (map entry_of es))) (sym t);
-}
-seek_next es e i j d false so b h k w s t v = absurd (false≢true w)
-
--- the search goes on, by one place
-module _ {es : List Slot} {e : Entry} {i j : ℕ} {sought so : Bool} (v : Seeking es e i sought j so)
-    (test : ((ltb j i && sought) && so) ≡ true) where
-  pub seek_on : (j < i) × (sought ≡ true) × (so ≡ true)
-  seek_on =
-      let a = both (ltb j i && sought) so test in
-      let b = both (ltb j i) sought a.0 in
-      (ltb-true j i b.0, b.1, a.1)
-
-  pub seek_step : i ≤ length es → (d : Slot) (b : Bool) → b ≡ bars (entry_of (get_or es j d)) e
-      → Seeking es e i sought (j + 1) (not b)
-  seek_step k d b t = seek_next es e i j d sought so b seek_on.0 k seek_on.1 seek_on.2 t v
-
-pub seek_end : (es : List Slot) (e : Entry) (i j : ℕ) (sought so : Bool) → j ≤ i → ((ltb j i && sought) && so) ≡ false
-    → Seeking es e i sought j so
-    → (not sought || control (take i (map entry_of es)) e) ≡ so
-seek_end es e i j true true h k v =
-    let m : i ≤ j = ltb-false j i (sym (and-true (ltb j i)) ∙ sym (and-true (ltb j i && true)) ∙ k) in
-    let n : j ≡ i = omega arith in
-    v.yet ∙ rw n (ap (every (free e)) (slice_empty i (map entry_of es)))
-seek_end es e i j false true h k v = v.yet
-seek_end es e i j sought false h k v = v.yet
 
 -- the marks are those of a list of entries, among these
 abbrev pub Found : Marks → List Entry → Marks → Type 0
@@ -133,24 +95,32 @@ with_mark_lem among m l e g r h = record {
         ∙ ap (λ (x : ℕ). not (sought_in among m x) || control l e) (sym (eqb-true e.task t o))
         ∙ h
 
--- one more slot, whose task is among these or not, and found or not
-pub found_next : (es : List Slot) (i : ℕ) (d : Slot) (among m r : Marks) (named done g : Bool) → i < length es
-    → Found among (take i (map entry_of es)) m
-    → named ≡ mark_at among (get_or es i d).task.0 → done ≡ mark_at m (get_or es i d).task.0
-    → (not (named && not done) || control (take i (map entry_of es)) (entry_of (get_or es i d))) ≡ g
-    → r ≡ with_mark m (get_or es i d).task.0 g
-    → Found among (take (i + 1) (map entry_of es)) r
-found_next es i d among m r named done g h v a b k e =
-    let s : take (i + 1) (map entry_of es) ≡ take i (map entry_of es) ++ (entry_of (get_or es i d) ∷ []) =
-    rw (add-one) (take-suc (map entry_of es) i (entry_of d) (omega (arith, length-map es entry_of)))
-    ∙ ap (λ (x : Entry). take i (map entry_of es) ++ (x ∷ [])) (get_or-map entry_of es i d) in
-    rw (e, s) (with_mark_lem among m (take i (map entry_of es)) (entry_of (get_or es i d)) g v
-    (ap₂ (λ (x y : Bool). not (x && not y) || control (take i (map entry_of es)) (entry_of (get_or es i d))) (sym a)
-    (sym b) ∙ k))
-
--- what has no place is not marked
-pub mark_past : (m : Marks) (t : ℕ) (g : Bool) → length m.tasks ≤ t → m ≡ with_mark m t g
+mark_kept : (m : Marks) (t : ℕ) → with_mark m t true ≡ m
 unfolding with_mark
-mark_past m t g h =
-    let s : set m.tasks t (mark_at m t || not g) ≡ m.tasks = set_out m.tasks t (mark_at m t || not g) h in
-    sym (λ i. record { tasks = s i })
+mark_kept m t =
+    let e : set m.tasks t (mark_at m t || false) ≡ m.tasks =
+    ap (set m.tasks t) (or-false (mark_at m t)) ∙ set-get_or m.tasks t false in
+    λ i. record { tasks = e i }
+
+-- one more slot: its task is looked at, or it has its mark or needs none
+module _ (among m : Marks) (es : List Slot) (i : ℕ) (d : Slot) (h : i < length es)
+    (v : Found among (take i (map entry_of es)) m) where
+  one_slot : (g : Bool)
+      → (not (sought_in among m (get_or es i d).task.0)
+      || control (take i (map entry_of es)) (entry_of (get_or es i d))) ≡ g
+      → Found among (take (i + 1) (map entry_of es)) (with_mark m (get_or es i d).task.0 g)
+  one_slot g k =
+      let s : take (i + 1) (map entry_of es) ≡ take i (map entry_of es) ++ (entry_of (get_or es i d) ∷ []) =
+      rw (add-one) (take-suc (map entry_of es) i (entry_of d) (omega (arith, length-map es entry_of)))
+      ∙ ap (λ (x : Entry). take i (map entry_of es) ++ (x ∷ [])) (get_or-map entry_of es i d) in
+      rw s (with_mark_lem among m (take i (map entry_of es)) (entry_of (get_or es i d)) g v k)
+
+  pub found_looked : (g : Bool) {r : Marks} → sought_in among m (get_or es i d).task.0 ≡ true
+      → control (take i (map entry_of es)) (entry_of (get_or es i d)) ≡ g
+      → r ≡ with_mark m (get_or es i d).task.0 g → Found among (take (i + 1) (map entry_of es)) r
+  found_looked g e k f = rw f (one_slot g (rw e k))
+
+  pub found_passed : {r : Marks} → sought_in among m (get_or es i d).task.0 ≡ false → r ≡ m
+      → Found among (take (i + 1) (map entry_of es)) r
+  found_passed e f =
+      rw (f ∙ sym (mark_kept m (get_or es i d).task.0)) (one_slot true (rw e refl))

@@ -27,7 +27,7 @@ abbrev pub slot_for : ℕ → Pointed → Slot
 slot_for t w = record { task = record { 0 = t }; exclusive = w.exclusive; name = w.name }
 
 -- what is read of an array past its end, where a law asks for it and the place is within
-blank : Pointed
+abbrev pub blank : Pointed
 blank = record { exclusive = false; name = record { 0 = 0 } }
 
 -- the names from place i on are left: behind what is stored so far they make the whole, and there is room for them

@@ -1,6 +1,6 @@
 -- CHNG in place: a task's slots for some names made exclusive, one after the other.
-use mathlib.Core.Path.{◌≡◌, refl, sym, ap, ◌∙◌}
-use mathlib.Core.Bool.{Bool, ◌||◌}
+use mathlib.Core.Path.{◌≡◌, refl, ap, ap₂, ◌∙◌}
+use mathlib.Core.Bool.{Bool, ◌||◌, or_comm}
 use mathlib.Core.List.{List, [], ◌∷◌, ◌++◌, map}
 use Prim.Native.Nat.{ℕ, ◌+◌, ◌<◌}
 use lib.ListN.{length, get_or, take, drop, set}
@@ -21,16 +21,19 @@ unfolding exclusive_slot made_exclusive
 exclusive_shown t ns [] = refl
 exclusive_shown t ns (s ∷ l) = ap (λ (r : List Entry). entry_of (exclusive_slot t ns s) ∷ r) (exclusive_shown t ns l)
 
--- the next slot, of which the search tells whether it is the task's for one of the names
-pub exclusive_next : (t : ℕ) (ns : List Resource) (es rs : List Slot) (i : ℕ) (d : Slot) (found : Bool) → i < length es
-    → rs ≡ map (exclusive_slot t ns) (take i es) ++ drop i es → is_for_one t ns (entry_of (get_or rs i d)) ≡ found
+-- the next slot, of which `mine` tells whether it is the task's for one of the names
+pub exclusive_next : (t : ℕ) (ns : List Resource) (es rs : List Slot) (i : ℕ) (d : Slot) (mine : Bool) → i < length es
+    → rs ≡ map (exclusive_slot t ns) (take i es) ++ drop i es → mine ≡ is_for_one t ns (entry_of (get_or es i d))
     → set rs i
-    (record { task = (get_or rs i d).task; exclusive = found || (get_or rs i d).exclusive; name = (get_or rs i d).name })
+    (record { task = (get_or rs i d).task; exclusive = (get_or rs i d).exclusive || mine; name = (get_or rs i d).name })
     ≡ map (exclusive_slot t ns) (take (i + 1) es) ++ drop (i + 1) es
 unfolding exclusive_slot
-exclusive_next t ns es rs i d found h e k =
-    ap (λ (b : Bool). set rs i
-    (record { task = (get_or rs i d).task; exclusive = b || (get_or rs i d).exclusive; name = (get_or rs i d).name })) (sym k)
-    ∙ ap (λ (l : List Slot). set l i (exclusive_slot t ns (get_or rs i d))) e
-    ∙ changed_next (exclusive_slot t ns) es i d (exclusive_slot t ns (get_or rs i d)) h
-    (ap (exclusive_slot t ns) (ap (λ (l : List Slot). get_or l i d) e ∙ changed_at (exclusive_slot t ns) es i d h))
+exclusive_next t ns es rs i d mine h e k =
+    let x = get_or es i d in
+    let same : get_or rs i d ≡ x = ap (λ (l : List Slot). get_or l i d) e ∙ changed_at (exclusive_slot t ns) es i d h in
+    let either : (x.exclusive || mine) ≡ (is_for_one t ns (entry_of x) || x.exclusive) =
+    or_comm x.exclusive mine ∙ ap (λ (b : Bool). b || x.exclusive) k in
+    let changed = ap (λ (s : Slot). record { task = s.task; exclusive = s.exclusive || mine; name = s.name }) same
+    ∙ ap (λ (b : Bool). record { task = x.task; exclusive = b; name = x.name }) either in
+    ap₂ (λ (l : List Slot) (v : Slot). set l i v) e changed
+    ∙ changed_next (exclusive_slot t ns) es i d (exclusive_slot t ns x) h refl

@@ -2,14 +2,10 @@
 use mathlib.Core.Path.{◌≡◌, refl, sym, ap, ◌∙◌}
 use mathlib.Core.List.{List, map}
 use Prim.Native.Nat.{ℕ, ◌+◌, ◌<◌}
-use native.Mathlib.Omega.{arith}
-use lib.ListN.{length, get_or, take, set, replicate, length-map, length-set, length-replicate, get_or-map}
+use lib.ListN.{length, get_or, take, set, replicate, length-set, length-replicate}
 use Rattle.lists.specs.Tables.{padded}
 use Rattle.lists.specs.Filling.{fill_next}
 use Rattle.kinds.specs.Limits.{longest_list}
-use Rattle.kinds.specs.declared.names.Pointed.{Pointed}
-use Rattle.names.specs.Pointers.{pointed_ask}
-use Rattle.rules.specs.Names.{Ask}
 
 -- the first i elements of a list have filled their places, and the others are zero
 pub record Filled {A B : Type 0} (z : B) (f : A → B) (xs : List A) (i : ℕ) (r : List B) : Type 0 where
@@ -30,11 +26,3 @@ module _ {A B : Type 0} (z : B) (f : A → B) (xs : List A) where
 
   pub filled_all : (i n : ℕ) (r : List B) → i ≡ n → Filled z f xs i r → r ≡ padded longest_list z (map f (take n xs))
   filled_all i n r e v = v.full ∙ ap (λ (k : ℕ). padded longest_list z (map f (take k xs))) e
-
--- the same from what a request asks for
-pub ask_next : {B : Type 0} (z : B) (f : Ask → B) (ws : List Pointed) (i : ℕ) (d : Pointed) (r : List B) (b : B)
-    → i < longest_list → length ws ≡ longest_list → f (pointed_ask (get_or ws i d)) ≡ b
-    → Filled z f (map pointed_ask ws) i r → Filled z f (map pointed_ask ws) (i + 1) (set r i b)
-ask_next z f ws i d r b h k e v =
-    filled_next z f (map pointed_ask ws) i (pointed_ask d) r b h (omega (arith, length-map ws pointed_ask))
-    (ap f (get_or-map pointed_ask ws i d) ∙ e) v

@@ -1,38 +1,40 @@
 -- The flags of the names beside a request, and the searches that find them.
 use mathlib.Core.Path.{◌≡◌, refl, sym, ap, ◌∙◌}
-use mathlib.Core.Bool.{Bool, true, false, not, ◌&&◌, ◌||◌, false≢true}
-use mathlib.Core.List.{List, map}
-use Prim.Native.Nat.{ℕ, ◌+◌, ◌≤◌, ◌<◌}
-use lib.Dec.{ltb}
+use mathlib.Core.Bool.{Bool, true, false, ◌&&◌, ◌||◌}
+use mathlib.Core.List.{List, [], ◌∷◌, map, map-map}
+use Prim.Native.Nat.{ℕ, ◌≤◌, ◌<◌}
 use lib.ListN.{length, get_or, take, length-map, get_or-map}
-use lib.Seq.{slice, slice_empty, length-take-le}
-use Rattle.lists.specs.Loops.{goes_on, run_out}
-use Rattle.lists.specs.Bools.{and_right}
-use Rattle.lists.specs.Lists.{every, some, unskipped}
+use lib.Seq.{length-take-le}
+use Rattle.std.specs.List.{list_all, zip}
+use native.Mathlib.Omega.{arith}
+use Rattle.lists.specs.Lists.{every, unskipped}
+use Rattle.lists.specs.Keeping.{take_map}
 use Rattle.lists.specs.Skipping.{unskipped_map}
 use Rattle.lists.specs.Tables.{padded, padded_take}
-use Rattle.lists.specs.Every.{slice_view, every_of}
+use Rattle.lists.specs.Every.{every_of}
 use Rattle.lists.specs.Filling.{filled_at}
 use Rattle.kinds.specs.Limits.{longest_list}
-use Rattle.kinds.specs.declared.names.Slot.{Slot}
 use Rattle.kinds.specs.declared.names.Pointed.{Pointed}
 use Rattle.kinds.specs.declared.names.PointedList.{PointedList}
 use Rattle.names.specs.Pointers.{pointed_ask, pointed_in}
 use Rattle.rules.specs.Names.{Ask}
 use Rattle.rules.specs.Control.{Entry, control, available}
-use Rattle.queue.specs.Queues.{entry_of}
 use Rattle.queue.specs.Flagging.{flags_of, all_set_but}
-use Rattle.queue.proofs.Filled.{Filled, filled_all}
 use Rattle.queue.specs.declared.looks.Flags.{Flags}
 
 -- the names within the count are as many as it says
 pub asks_length : (l : PointedList) → l.count ≤ length l.names → length (pointed_in l).asks ≡ l.count
 asks_length l h = length-take-le l.count (map pointed_ask l.names) (rw (length-map l.names pointed_ask) h)
 
-pub flags_are : (f : Ask → Bool) (l : PointedList) (i : ℕ) (r : Flags) → i ≡ l.count
-    → Filled false f (map pointed_ask l.names) i r.of → r ≡ flags_of f (pointed_in l)
+pub flags_are : (f : Ask → Bool) (l : PointedList) (r : Flags)
+    → r.of ≡ padded longest_list false (map (λ (w : Pointed). f (pointed_ask w)) (take l.count l.names))
+    → r ≡ flags_of f (pointed_in l)
 unfolding flags_of
-flags_are f l i r e v = λ j. record { of = filled_all false f (map pointed_ask l.names) i l.count r.of e v j }
+flags_are f l r e =
+    let shown : map f (pointed_in l).asks ≡ map (λ (w : Pointed). f (pointed_ask w)) (take l.count l.names) =
+    ap (map f) (take_map pointed_ask l.count l.names) ∙ map-map f pointed_ask (take l.count l.names) in
+    let all = e ∙ sym (ap (padded longest_list false) shown) in
+    λ j. record { of = all j }
 
 -- the flag of one name
 pub flag_at : (f : Ask → Bool) (l : PointedList) (r : Flags) (i : ℕ) (d : Pointed) (e : Bool)
@@ -51,28 +53,13 @@ pub tail_available : (q : List Entry) (t : ℕ) (a : Ask)
 unfolding available control
 tail_available q t a = refl
 
--- the search, among the first n slots, for one that passes a test: from place j on, while none was found
-unfoldable pub Sought : (Entry → Bool) → List Slot → ℕ → ℕ → Bool → Type 0
-Sought f es n j found = some f (take n (map entry_of es)) ≡ (found || some f (slice j n (map entry_of es)))
-
-module _ (f : Entry → Bool) (es : List Slot) (n : ℕ) where
-  pub sought_start : Sought f es n 0 false
-  unfolding Sought
-  sought_start = refl
-
-  pub sought_next : (j : ℕ) (d : Slot) (found b : Bool) → (ltb j n && not found) ≡ true → n ≤ length es
-      → b ≡ f (entry_of (get_or es j d)) → Sought f es n j found → Sought f es n (j + 1) b
-  unfolding Sought
-  sought_next j d true b h k t v = absurd (false≢true (and_right (ltb j n) false h))
-  sought_next j d false b h k t v =
-      v ∙ ap (some f) (slice_view entry_of es j n d (goes_on j n true h) k)
-      ∙ ap (λ (a : Bool). a || some f (slice (j + 1) n (map entry_of es))) (sym t)
-
-  pub sought_end : (j : ℕ) (found : Bool) → j ≤ n → (ltb j n && not found) ≡ false → Sought f es n j found
-      → some f (take n (map entry_of es)) ≡ found
-  unfolding Sought
-  sought_end j true h k v = v
-  sought_end j false h k v = v ∙ rw (run_out j n true h refl k) (ap (some f) (slice_empty n (map entry_of es)))
+-- each flag is set or skipped
+pub but_skipped : (l skip : List Bool) → length l ≤ length skip
+    → list_all (λ (p : Bool × Bool). p.1 || p.0) (zip l skip) ≡ every (λ (b : Bool). b) (unskipped skip l)
+but_skipped [] skip h = refl
+but_skipped (x ∷ l) [] h = absurd (omega arith)
+but_skipped (x ∷ l) (true ∷ skip) h = but_skipped l skip (omega arith)
+but_skipped (x ∷ l) (false ∷ skip) h = ap (λ (b : Bool). x && b) (but_skipped l skip (omega arith))
 
 -- the flags of all names
 module _ (f : Ask → Bool) (l : PointedList) (r : Flags) (e : r ≡ flags_of f (pointed_in l))

@@ -11,4 +11,3 @@ pub mod Looking
 pub mod Exclusive
 pub mod Promises
 pub mod Repointing
-pub mod Points

@@ -1,6 +1,6 @@
 -- The loops over where the names of the entries lie: read, compared, and written.
 use mathlib.Core.Path.{◌≡◌, refl, sym, ap, ap₂, ◌∙◌}
-use mathlib.Core.Bool.{true, false, ◌&&◌}
+use mathlib.Core.Bool.{Bool, false, ◌&&◌}
 use mathlib.Core.List.{List, [], ◌∷◌, ◌++◌, map, append-nil}
 use Prim.Native.Nat.{ℕ, zero, suc, ◌+◌, ◌≤◌, ◌<◌}
 use native.Mathlib.Numerals.{add-one}
@@ -8,11 +8,12 @@ use native.Mathlib.Nat.{le_of_suc-le-suc}
 use native.Mathlib.Omega.{arith}
 use lib.Dec.{eqb}
 use lib.ListN.{length, get_or, take, drop, set, length-map, drop_of_length-le}
-use lib.Seq.{slice, slice_empty, take-length, length-take-le}
+use lib.Seq.{length-take-le, take-length}
 use Rattle.lists.specs.Lists.{same_bytes}
 use Rattle.lists.specs.Bytes.{same_lengths}
-use Rattle.lists.specs.Every.{slice_view}
 use Rattle.lists.specs.Filling.{map_at, copy_next}
+use Rattle.lists.specs.Keeping.{take_map}
+use Rattle.std.specs.List.{list_all, zip}
 use Rattle.kinds.specs.declared.names.Slot.{Slot}
 use Rattle.rules.specs.Control.{Entry}
 use Rattle.queue.specs.Queues.{entry_of, entries_in, stored_entries, PackedEntries}
@@ -37,37 +38,23 @@ read_over q old i r n k e =
     let p : r.of ≡ l = e ∙ ap₂ (λ (u v : List ℕ). u ++ v) t (drop_of_length-le old k) ∙ append-nil l in
     λ j. record { of = p j }
 
--- COMPARED, entry by entry: the answer is that of the places i to n - 1
-pub record SameFrom (a b : Queue) (n i : ℕ) : Type 0 where
-  pub left : same_bytes (offsets_in a) (offsets_in b)
-      ≡ same_bytes (slice i n (offsets_at a).of) (slice i n (offsets_at b).of)
+-- COMPARED, slot by slot
+same_all : (l m : List Slot) → length l ≡ length m
+    → list_all (λ (p : Slot × Slot). eqb p.0.name.0 p.1.name.0) (zip l m)
+    ≡ same_bytes (map slot_offset l) (map slot_offset m)
+same_all [] [] h = refl
+same_all [] (y ∷ m) h = absurd (omega arith)
+same_all (x ∷ l) [] h = absurd (omega arith)
+same_all (x ∷ l) (y ∷ m) h = ap (λ (t : Bool). eqb x.name.0 y.name.0 && t) (same_all l m (omega arith))
 
-pub same_start : (a b : Queue) → a.count ≡ b.count → SameFrom a b a.count 0
-same_start a b e = record {
-  left = sym (ap₂ same_bytes (offsets_taken a) (ap (λ (n : ℕ). take n (offsets_at b).of) e ∙ offsets_taken b));
-}
+offsets_shown : (q : Queue) → map slot_offset (take q.count q.slots) ≡ offsets_in q
+offsets_shown q = sym (take_map slot_offset q.count q.slots) ∙ offsets_taken q
 
-module _ {a b : Queue} {n i : ℕ} (v : SameFrom a b n i) where
-  pub same_over : i ≡ n → true ≡ same_bytes (offsets_in a) (offsets_in b)
-  same_over e =
-      sym (v.left ∙ rw e (ap₂ same_bytes (slice_empty n (offsets_at a).of) (slice_empty n (offsets_at b).of)))
-
-  -- the entries at place i
-  module _ (h : i < n) (k : n ≤ length a.slots) (m : n ≤ length b.slots) (d : Slot) where
-    here : same_bytes (offsets_in a) (offsets_in b)
-        ≡ (eqb (get_or a.slots i d).name.0 (get_or b.slots i d).name.0
-        && same_bytes (slice (i + 1) n (offsets_at a).of) (slice (i + 1) n (offsets_at b).of))
-    here =
-        v.left
-        ∙ ap₂ same_bytes (slice_view slot_offset a.slots i n d h k) (slice_view slot_offset b.slots i n d h m)
-
-    pub same_stops : eqb (get_or a.slots i d).name.0 (get_or b.slots i d).name.0 ≡ false
-        → false ≡ same_bytes (offsets_in a) (offsets_in b)
-    same_stops e = sym (here ∙ rw e)
-
-    pub same_goes_on : eqb (get_or a.slots i d).name.0 (get_or b.slots i d).name.0 ≡ true
-        → SameFrom a b n (i + 1)
-    same_goes_on e = record { left = here ∙ rw e }
+pub same_is : (a b : Queue) → length (take a.count a.slots) ≡ length (take b.count b.slots)
+    → list_all (λ (p : Slot × Slot). eqb p.0.name.0 p.1.name.0) (zip (take a.count a.slots) (take b.count b.slots))
+    ≡ same_bytes (offsets_in a) (offsets_in b)
+same_is a b h =
+    same_all (take a.count a.slots) (take b.count b.slots) h ∙ ap₂ same_bytes (offsets_shown a) (offsets_shown b)
 
 offsets_count : (q : Queue) → q.count ≤ length q.slots → length (offsets_in q) ≡ q.count
 offsets_count q h =
@@ -80,7 +67,7 @@ same_counts a b h k n =
     sym (same_lengths (offsets_in a) (offsets_in b) (λ e. n (sym (offsets_count a h) ∙ e ∙ offsets_count b k)))
 
 -- WRITTEN, slot by slot
-abbrev slot_to : ℕ → Slot → Slot
+abbrev pub slot_to : ℕ → Slot → Slot
 slot_to o s = record { task = s.task; exclusive = s.exclusive; name = record { 0 = o } }
 
 abbrev pub slots_to : List ℕ → List Slot → List Slot

@@ -2,15 +2,12 @@
 use mathlib.Core.Path.{◌≡◌, refl, sym, ap, ◌∙◌}
 use mathlib.Core.Bool.{Bool, true, false, not, cond, ◌&&◌, and-true, and_assoc}
 use mathlib.Core.List.{List, [], ◌∷◌, map}
-use Prim.Native.Nat.{ℕ, ◌+◌, ◌≤◌}
-use lib.Dec.{ltb}
-use lib.ListN.{length, get_or, take}
-use lib.Seq.{slice, slice_empty}
-use Rattle.lists.specs.Loops.{goes_on, run_out}
+use Prim.Native.Nat.{ℕ, suc, ◌+◌, ◌≤◌, ◌<◌}
+use native.Mathlib.Numerals.{add-one}
+use lib.ListN.{length, get_or, drop, drop_of_length-le}
+use lib.Seq.{drop-cons}
 use Rattle.lists.specs.Lists.{every}
-use Rattle.lists.specs.Bools.{and_right}
 use Rattle.lists.specs.Pick.{pick}
-use Rattle.lists.specs.Every.{slice_view}
 use Rattle.kinds.specs.declared.names.Slot.{Slot}
 use Rattle.rules.specs.Names.{Resource, same_name}
 use Rattle.rules.specs.Control.{Entry, of_task, queue_of, sole_owner}
@@ -64,32 +61,29 @@ one_more t m s e l g = one (same_name e.name m) refl
     one true w = in_run t m s e (queue_of m l) w g
     one false w = ap (λ (u : Lead). sole_from t u (queue_of m l)) (sym (other_name t m s e w))
 
--- the first n slots are read up to place j
-unfoldable pub ReadTo : ℕ → Resource → List Slot → ℕ → ℕ → Lead → Type 0
-ReadTo t m es n j s = sole_owner (take n (map entry_of es)) t m ≡ sole_from t s (queue_of m (slice j n (map entry_of es)))
+-- the slots are read up to place j
+unfoldable pub ReadTo : ℕ → Resource → List Slot → ℕ → Lead → Type 0
+ReadTo t m es j s = sole_owner (map entry_of es) t m ≡ sole_from t s (queue_of m (map entry_of (drop j es)))
 
-module _ (t : ℕ) (m : Resource) (es : List Slot) (n : ℕ) where
-  pub read_start : ReadTo t m es n 0 (record { first = true; going = true; sole = true })
+module _ (t : ℕ) (m : Resource) (es : List Slot) where
+  pub read_start : ReadTo t m es 0 (record { first = true; going = true; sole = true })
   unfolding ReadTo
-  read_start = ap (every (of_task t)) (owners_leading m (take n (map entry_of es)))
+  read_start = ap (every (of_task t)) (owners_leading m (map entry_of es))
 
-  pub read_next : (j : ℕ) (d : Slot) (s r : Lead) → (ltb j n && s.going) ≡ true → n ≤ length es
-      → r ≡ lead_next s t m (entry_of (get_or es j d)) → ReadTo t m es n j s → ReadTo t m es n (j + 1) r
+  pub read_next : (j : ℕ) (d : Slot) (s r : Lead) → s.going ≡ true → j < length es
+      → r ≡ lead_next s t m (entry_of (get_or es j d)) → ReadTo t m es j s → ReadTo t m es (j + 1) r
   unfolding ReadTo
-  read_next j d s r h k e v =
-      v ∙ ap (λ (l : List Entry). sole_from t s (queue_of m l)) (slice_view entry_of es j n d (goes_on j n s.going h) k)
-      ∙ one_more t m s (entry_of (get_or es j d)) (slice (j + 1) n (map entry_of es)) (and_right (ltb j n) s.going h)
-      ∙ ap (λ (u : Lead). sole_from t u (queue_of m (slice (j + 1) n (map entry_of es)))) (sym e)
+  read_next j d s r g k e v =
+      v ∙ ap (λ (l : List Slot). sole_from t s (queue_of m (map entry_of l))) (drop-cons es j d k)
+      ∙ one_more t m s (entry_of (get_or es j d)) (map entry_of (drop (suc j) es)) g
+      ∙ rw (add-one, e)
 
-  pub read_end : (j : ℕ) (s : Lead) → j ≤ n → (ltb j n && s.going) ≡ false → ReadTo t m es n j s
-      → sole_owner (take n (map entry_of es)) t m ≡ s.sole
+  pub read_stop : (j : ℕ) (s : Lead) → s.going ≡ false → ReadTo t m es j s → sole_owner (map entry_of es) t m ≡ s.sole
   unfolding ReadTo
-  read_end j s h k v = v ∙ one s.going refl ∙ and-true s.sole
-    where
-      one : (g : Bool) → s.going ≡ g → sole_from t s (queue_of m (slice j n (map entry_of es))) ≡ (s.sole && true)
-      one true g =
-          let e = run_out j n s.going h g k in
-          let x : slice j n (map entry_of es) ≡ [] = rw e (slice_empty n (map entry_of es)) in
-          ap (λ (l : List Entry). sole_from t s (queue_of m l)) x
-          ∙ ap (λ (l : List Entry). s.sole && every (of_task t) l) (run_none s.first s.going)
-      one false g = rw g
+  read_stop j s g v = v ∙ rw g (and-true s.sole)
+
+  pub read_end : (j : ℕ) (s : Lead) → length es ≤ j → ReadTo t m es j s → sole_owner (map entry_of es) t m ≡ s.sole
+  unfolding ReadTo
+  read_end j s k v =
+      v ∙ rw (drop_of_length-le es k) (ap (λ (l : List Entry). s.sole && every (of_task t) l) (run_none s.first s.going))
+      ∙ and-true s.sole

@@ -8,8 +8,10 @@ pub mod offsets;
 pub mod queuing;
 pub mod releasing;
 
-ghost use Rattle.std.specs.Prelude.{◌≡◌, [], ◌≤◌};
+ghost use Rattle.std.specs.Prelude.{◌≡◌, [], ◌+◌, ◌≤◌, ◌<◌, not, set};
+ghost use Rattle.lists.specs.Lists.{every, some};
 ghost use Rattle.kinds.specs.Limits.{most_entries};
+ghost use Rattle.kinds.specs.declared.names.Slot.{Slot};
 ghost use Rattle.rules.specs.Rings.{bars as bars_of};
 ghost use Rattle.rules.specs.SoundQueue.{same_request, entries_once, entry_names_good, queue_fits};
 ghost use Rattle.queue.specs.Queues.{entry_of, stored_entries, entries_in, is_zero, packed_entries};
@@ -19,10 +21,24 @@ use kinds::{NameOffset, Slot, TaskNumber};
 use marks::marked;
 pub use marks::{Marks, all_marks, no_marks};
 
+// Any count and any places: demand 1 hands any tables to `sound` and `serve`, and the theorems on `packed`
+// (docs/PROMISES) speak of a queue whose count is past its places. So no invariant holds the count, and whoever needs
+// it requires it.
 #[derive(Clone, Copy)]
 pub struct Queue {
     pub slots: [Slot; Slot::PLACES],
     pub count: usize,
+}
+
+impl Queue {
+    // One more entry, at the tail.
+    pub(crate) fn push(&mut self, e: Slot)
+        requires { self.old.count < most_entries }
+        ensures { self.new ≡ record { slots = set self.old.slots self.old.count e; count = self.old.count + 1 } }
+    {
+        self.slots[self.count] = e;
+        self.count += 1;
+    }
 }
 
 // The queue with no entry.
@@ -43,7 +59,8 @@ pub fn empty() -> Queue
 fn is_zero(s: Slot) -> bool
     ensures { result ≡ is_zero s }
 {
-    (s.task.0 == 0) & (!s.exclusive & (s.name.0 == 0))
+    // `&`: `packed` takes many places at once
+    (s.task == TaskNumber(0)) & (!s.exclusive & (s.name == NameOffset(0)))
 }
 
 // The queue keeps a list of entries, and nothing else stands in it: whatever is used keeps an entry, the rest is zero.
@@ -51,17 +68,12 @@ fn is_zero(s: Slot) -> bool
 pub fn packed(q: Queue) -> bool
     ensures { result ≡ packed_entries q }
 {
-    let n = q.count;
-    if Slot::PLACES < n {
+    if Slot::PLACES < q.count {
         return false;
     }
     let mut zero = true;
-    let mut i = n;
-    while i < Slot::PLACES {
-        let x = q.slots[i];
-        let z = is_zero(x);
-        zero = zero & z;
-        i += 1;
+    for x in &q.slots[q.count..] {
+        zero &= is_zero(*x);
     }
     zero
 }
@@ -77,14 +89,28 @@ pub fn queue_fits(q: Queue) -> bool
 pub fn bars(x: Slot, e: Slot) -> bool
     ensures { result ≡ bars_of (entry_of x) (entry_of e) }
 {
-    (x.name.0 == e.name.0) & (x.exclusive | e.exclusive)
+    x.name == e.name && (x.exclusive || e.exclusive)
+}
+
+// None of those before an entry keeps it waiting.
+pub(crate) fn none_bars(before: &[Slot], e: Slot) -> bool
+    ensures { result ≡ every (λ (x : Slot). not (bars_of (entry_of x) (entry_of e))) before.now }
+{
+    before.iter().all(|x| !bars(*x, e))
 }
 
 // Two entries of one task for one name.
 fn same_request(a: Slot, b: Slot) -> bool
     ensures { result ≡ same_request (entry_of a) (entry_of b) }
 {
-    (b.task.0 == a.task.0) & (b.name.0 == a.name.0)
+    b.task == a.task && b.name == a.name
+}
+
+// The entry's task has another for its name among the later ones.
+fn is_again(x: Slot, later: &[Slot]) -> bool
+    ensures { result ≡ some (λ (y : Slot). same_request (entry_of x) (entry_of y)) later.now }
+{
+    later.iter().any(|y| same_request(x, *y))
 }
 
 // No task has two entries for one name.
@@ -92,18 +118,10 @@ pub fn entries_once(q: Queue) -> bool
     requires { q.count ≤ most_entries }
     ensures { result ≡ entries_once (entries_in q) }
 {
-    let n = q.count;
-    let mut i = 0;
-    while i < n {
-        let x = q.slots[i];
-        i += 1;
-        let mut j = i;
-        while j < n {
-            let y = q.slots[j];
-            if same_request(x, y) {
-                return false;
-            }
-            j += 1;
+    let used = &q.slots[..q.count];
+    for (i, x) in used.iter().enumerate() {
+        if is_again(*x, &used[i + 1..]) {
+            return false;
         }
     }
     true
@@ -122,25 +140,13 @@ pub fn lacking(q: Queue, among: Marks) -> Marks
     requires { q.count ≤ most_entries }
     ensures { result ≡ marks_among among (entries_in q) }
 {
-    let n = q.count;
+    let used = &q.slots[..q.count];
     let mut found = no_marks();
-    let mut i = 0;
-    while i < n {
-        let x = q.slots[i];
+    for (i, x) in used.iter().enumerate() {
         let t = x.task;
-        let named = among.has(t);
-        let done = found.has(t);
-        let sought = named & !done;
-        let mut free = true;
-        let mut j = 0;
-        while (j < i) & sought & free {
-            let y = q.slots[j];
-            let b = bars(y, x);
-            free = !b;
-            j += 1;
+        if among.has(t) & !found.has(t) {
+            found = marked(found, t, none_bars(&used[..i], *x));
         }
-        found = marked(found, t, free);
-        i += 1;
     }
     found
 }

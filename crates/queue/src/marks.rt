@@ -17,11 +17,7 @@ impl Marks {
     pub(crate) fn has(self, t: TaskNumber) -> bool
         ensures { result ≡ mark_at self t.0 }
     {
-        let k = t.0 as usize;
-        if TaskNumber::PLACES < k {
-            return false;
-        }
-        self.tasks[k]
+        self.tasks.get(t.0 as usize).copied().unwrap_or(false)
     }
 }
 
@@ -45,12 +41,10 @@ pub fn no_marks() -> Marks
 pub(crate) fn marked(m: Marks, t: TaskNumber, granted: bool) -> Marks
     ensures { result ≡ with_mark m t.0 granted }
 {
-    let k = t.0 as usize;
-    if TaskNumber::PLACES < k {
-        return m;
-    }
     let mut r = m;
-    let before = r.tasks[k];
-    r.tasks[k] = before | !granted;
+    let k = t.0 as usize;
+    if k < Marks::PLACES {
+        r.tasks[k] |= !granted;
+    }
     r
 }

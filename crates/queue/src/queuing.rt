@@ -1,5 +1,4 @@
 // The changes of the queue that ENQ makes.
-// Entries are stored and names compared in place: a call would copy the queue or the list at each turn.
 ghost use Rattle.std.specs.Prelude.{◌≡◌, map, ◌+◌, ◌≤◌, length};
 ghost use Rattle.lists.specs.Lists.{unskipped};
 ghost use Rattle.kinds.specs.Limits.{most_entries, longest_list};
@@ -9,7 +8,7 @@ ghost use Rattle.names.specs.Pointers.{pointed_in};
 ghost use Rattle.queue.specs.Queues.{stored_entries, entries_in, PackedEntries};
 
 use crate::Queue;
-use crate::looks::Flags;
+use crate::looks::{Flags, is_for_one};
 use kinds::{PointedList, Slot, TaskNumber};
 
 // New entries go to the tail, in list order, but for the names that are skipped.
@@ -18,23 +17,15 @@ pub fn with_tail(q: Queue, c: TaskNumber, l: PointedList, skip: Flags) -> Queue
         × (q.count + length (unskipped skip.of (pointed_in l).asks) ≤ most_entries) }
     ensures { result ≡ stored_entries (with_tail (entries_in q) c.0 (unskipped skip.of (pointed_in l).asks)) }
 {
-    let n = l.count as usize;
     let mut r = q;
-    let mut i = 0;
-    while i < n {
+    for (i, w) in l.names[..l.count as usize].iter().enumerate() {
         if !skip.of[i] {
-            let w = l.names[i];
-            let name = w.name;
-            let e = Slot {
+            r.push(Slot {
                 task: c,
                 exclusive: w.exclusive,
-                name,
-            };
-            let at = r.count;
-            r.slots[at] = e;
-            r.count = at + 1;
+                name: w.name,
+            });
         }
-        i += 1;
     }
     r
 }
@@ -44,26 +35,10 @@ pub fn made_exclusive(q: Queue, c: TaskNumber, l: PointedList) -> Queue
     requires { PackedEntries q × (l.count ≤ longest_list) }
     ensures { result ≡ stored_entries (map (made_exclusive c.0 (names_of (pointed_in l))) (entries_in q)) }
 {
-    let n = q.count;
-    let k = l.count as usize;
+    let names = &l.names[..l.count as usize];
     let mut r = q;
-    let mut i = 0;
-    while i < n {
-        let x = r.slots[i];
-        let a = x.name;
-        let mine = x.task.0 == c.0;
-        let mut found = false;
-        let mut j = 0;
-        while mine & (j < k) & !found {
-            let w = l.names[j];
-            let b = w.name;
-            found = a.0 == b.0;
-            j += 1;
-        }
-        let mut y = x;
-        y.exclusive = found | x.exclusive;
-        r.slots[i] = y;
-        i += 1;
+    for (i, x) in q.slots[..q.count].iter().enumerate() {
+        r.slots[i].exclusive |= is_for_one(*x, c, names);
     }
     r
 }

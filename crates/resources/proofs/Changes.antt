@@ -5,14 +5,13 @@ use mathlib.Core.List.{List, [], ◌∷◌, map, map-map}
 use Prim.Native.Nat.{ℕ, ◌+◌, ◌≤◌}
 use native.Mathlib.Omega.{arith}
 use lib.ListN.{length, take, length-map}
-use borrow.Author.Tests.{ltb-false, not-false}
-use Rattle.lists.specs.Pick.{pick}
+use borrow.Author.Tests.{not-false}
+use Rattle.lists.specs.Pick.{pick, pick_true, pick_false}
 use Rattle.lists.specs.Lists.{every, unskipped}
 use Rattle.kinds.specs.Limits.{most_entries}
 use Rattle.kinds.specs.declared.names.PointedList.{PointedList}
 use Rattle.kinds.specs.declared.numbers.TaskNumber.{TaskNumber}
-use Rattle.kinds.specs.declared.replies.Gate.TheVariants.{Open}
-use Rattle.kinds.specs.declared.replies.Verdict.TheVariants.{Go}
+use Rattle.std.specs.Prelude.{Ok, is_err}
 use Rattle.kinds.specs.declared.requests.DeqRet.{DeqRet}
 use Rattle.kinds.specs.declared.requests.DeqRet.TheVariants.{None as DeqNone, Have as DeqHave}
 use Rattle.kinds.specs.declared.requests.Ret.{Ret}
@@ -20,9 +19,10 @@ use Rattle.kinds.specs.declared.requests.Ret.TheVariants.{None, Test, Use, Have,
 use Rattle.kinds.specs.declared.tasks.Task.{Task}
 use Rattle.rules.specs.Admission.{gate_of}
 use Rattle.names.specs.Pointers.{pointed_in}
+use Rattle.names.proofs.Listed.{good_count}
 use Rattle.rules.specs.Names.{Ask, Names, name_of, names_of, names_good}
 use Rattle.rules.specs.Control.{Entry, available}
-use Rattle.rules.specs.Codes.{all_zero, written_on, too_short}
+use Rattle.rules.specs.Codes.{all_zero, written_on}
 use Rattle.rules.specs.Steps.{Step, with_tasks, with_queue}
 use Rattle.rules.specs.Enq.{enq_code, enq_codes, enq_codes_due, duplicated, to_queue, enq_verdict, made_exclusive}
 use Rattle.rules.specs.Enq.{enq_good, only_if_zero, enq_change}
@@ -30,7 +30,7 @@ use Rattle.rules.specs.Deq.{deq_code, deq_codes, deq_codes_due, unentered, deq_v
 use Rattle.laws.specs.Running.{Running}
 use Rattle.laws.specs.InRange.{enq_names}
 use Rattle.laws.specs.KeptQueue.{zero_sole, tail_leaves}
-use Rattle.laws.specs.Passed.{CodesFit, enq_passed}
+use Rattle.laws.specs.Passed.{enq_passed}
 use Rattle.laws.specs.Changing.{chng_waits}
 use Rattle.laws.specs.ToQueue.{to_queue_room, use_zero}
 use Rattle.queue.specs.Queues.{entries_in, PackedEntries}
@@ -39,18 +39,11 @@ use Rattle.queue.specs.declared.Queue.{Queue}
 use Rattle.resources.specs.Coding.{codes_of, codes_front}
 use Rattle.resources.specs.Looking.{looks_of, looks_as, held_code, enq_asked, deq_asked, enq_looks, deq_looks}
 use Rattle.resources.specs.Looking.{queues_by, enq_found, deq_found}
-use Rattle.resources.specs.Serving.{is_go, EnqTold, caller_waits, queue_left, tasks_left, written_if}
+use Rattle.resources.specs.Serving.{EnqTold, caller_waits, queue_left, tasks_left, written_if}
 use Rattle.resources.specs.declared.looks.Looks.{Looks}
 use Rattle.resources.specs.declared.Found.{Found}
 use Rattle.resources.proofs.Judged.{found_went, enq_rest, deq_rest, enq_parts, deq_parts, duplicated_is}
 use Rattle.resources.proofs.Judged.{unentered_is, queued_left}
-
--- where codes are due the area has room for them
-pub due_room : (due : Bool) (room n : ℕ) (l : Names) → length l.asks ≡ n → due ≡ true → CodesFit due room l
-    → n ≤ room
-unfolding too_short
-due_room true room n l h p e = omega (arith, ltb-false room (length l.asks) e)
-due_room false room n l h p e = absurd (false≢true p)
 
 -- THE CODES
 
@@ -87,9 +80,9 @@ agree_written false d g l area a e = rw e
 
 -- ENQ
 pub enq_told : (q : List Entry) (c : TaskNumber) (ret : Ret) (l : PointedList) (room : ℕ) (k : Found) (b : Bool)
-    → enq_good ret (pointed_in l) ≡ true → k ≡ enq_found q c ret (pointed_in l) room → b ≡ is_go k.verdict
-    → not b ≡ false
-    → (enq_verdict q c ret (pointed_in l) room ≡ Go) × EnqTold ret q c.0 (pointed_in l) k.looks
+    → enq_good ret (pointed_in l) ≡ true → k ≡ enq_found q c ret (pointed_in l) room → b ≡ is_err k.verdict
+    → b ≡ false
+    → (enq_verdict q c ret (pointed_in l) room ≡ Ok tt) × EnqTold ret q c.0 (pointed_in l) k.looks
 enq_told q c ret l room k b n e g h =
     let ns = pointed_in l in
     let w = found_went (enq_asked ret ns room) (enq_rest q c.0 ret ns) (enq_looks ret q c.0 ns) _
@@ -126,8 +119,8 @@ module _ (q : List Entry) (c : ℕ) where
 
 -- DEQ
 pub deq_told : (q : List Entry) (c : TaskNumber) (ret : DeqRet) (l : Names) (room : ℕ) (k : Found) (b : Bool)
-    → names_good l ≡ true → k ≡ deq_found q c ret l room → b ≡ is_go k.verdict → not b ≡ false
-    → (deq_verdict q c ret l room ≡ Go) × (k.looks ≡ deq_looks q c.0 l)
+    → names_good l ≡ true → k ≡ deq_found q c ret l room → b ≡ is_err k.verdict → b ≡ false
+    → (deq_verdict q c ret l room ≡ Ok tt) × (k.looks ≡ deq_looks q c.0 l)
 deq_told q c ret l room k b n =
     found_went (deq_asked ret l room) (deq_rest q c.0 ret l) (deq_looks q c.0 l) _ (deq_parts q c ret l room n) k b
 
@@ -169,8 +162,10 @@ module _ {ret : Ret} {q : List Entry} {c : ℕ} {l : Names} {looks : Looks} (u :
       → every (available q) (to_queue ret q c l) ≡ not w
   unless_free e = ap (every (available q)) (sym left_told) ∙ sym (not-not _) ∙ ap not (sym e)
 
+pub ruleset tail = (left_told, left_room, good_count, pick_true, pick_false)
+
 -- THE COLUMN "THEN", of a step that runs and an admitted caller
-module _ (s : Step) (h : Running s) (c : TaskNumber) (o : gate_of s c ≡ Open) (l : Names) where
+module _ (s : Step) (h : Running s) (c : TaskNumber) (o : gate_of s c ≡ Ok tt) (l : Names) where
   abbrev left : Bool → List Entry → Step
   left w q = with_queue (with_tasks s (tasks_left s.tasks c.0 w)) q
 

@@ -2,7 +2,7 @@
 use mathlib.Core.Path.{◌≡◌, refl, sym, ap, ◌∙◌}
 use mathlib.Core.Bool.{Bool, true, false, not, ◌&&◌, ◌||◌, false≢true, not-not}
 use mathlib.Core.List.{List, [], ◌∷◌, ◌++◌, map}
-use Prim.Native.Nat.{ℕ, ◌+◌, ◌≤◌}
+use Prim.Native.Nat.{ℕ, ◌+◌}
 use native.Mathlib.Omega.{arith}
 use lib.Dec.{eqb, ltb}
 use lib.ListN.{length, take, length-map}
@@ -23,29 +23,32 @@ use Rattle.kinds.specs.declared.requests.Ret.{Ret}
 use Rattle.kinds.specs.declared.requests.Ret.TheVariants.{None, Test, Use, Have, Chng}
 use Rattle.kinds.specs.declared.requests.DeqRet.{DeqRet}
 use Rattle.kinds.specs.declared.requests.DeqRet.TheVariants.{None as DeqNone, Have as DeqHave}
-use Rattle.kinds.specs.declared.replies.Verdict.{Verdict}
-use Rattle.kinds.specs.declared.replies.Verdict.TheVariants.{Go, Refuse, Fail}
+use Rattle.std.specs.Prelude.{Ok, Err, is_err}
+use Rattle.kinds.specs.Replies.{Verdict}
+use Rattle.kinds.specs.declared.replies.No.TheVariants.{Refuse, Fail}
 use Rattle.kinds.specs.declared.replies.Refusal.TheVariants.{NoEntryFree}
 use Rattle.kinds.specs.declared.replies.Fault.TheVariants.{DuplicateEnq, DeqWithoutEntry}
+use Rattle.names.proofs.Listed.{good_count}
 use Rattle.names.specs.Pointers.{pointed_ask, pointed_in, lawful_pointer}
 use Rattle.rules.specs.Names.{Ask, Names, name_of, names_of, legal, lawful, names_good, asks_system}
 use Rattle.rules.specs.Control.{Entry, has_entry}
-use Rattle.rules.specs.Codes.{all_zero, too_short}
+use Rattle.rules.specs.Codes.{all_zero}
 use Rattle.rules.specs.Tests.{No, saying, Check, refuse, fail, first_of}
-use Rattle.rules.specs.Tests.No.{refusal, fault}
 use Rattle.rules.specs.Admission.{on_go}
 use Rattle.rules.specs.Enq.{enq_code, enq_codes_due, enq_good, enq_verdict, duplicated, fresh, to_queue, too_few_free}
 use Rattle.rules.specs.Deq.{deq_code, deq_codes_due, deq_verdict, unentered}
-use Rattle.laws.specs.Decided.{bad_held, bad_failed, judged}
+use Rattle.laws.specs.InRange.{enq_names}
 use Rattle.laws.specs.LawfulNames.{lawful_each}
 use Rattle.laws.specs.ToQueue.{to_queue_fresh}
 use Rattle.queue.specs.Flagging.{flags_of}
-use Rattle.queue.proofs.Flagged.{asks_length}
 use Rattle.resources.specs.Looking.{no_looks, looks_of, entered, held_code, enq_looks, deq_looks, queues_by}
 use Rattle.resources.specs.Looking.{fresh_names, few_free, enq_asked, deq_asked, enq_weighed, deq_weighed, unlooked_by}
-use Rattle.resources.specs.Serving.{is_go}
+use Rattle.resources.specs.Serving.{}
 use Rattle.resources.specs.declared.looks.Looks.{Looks}
 use Rattle.resources.specs.declared.Found.{Found}
+
+-- names that the tests let pass are no more than the array holds
+pub ruleset named = (good_count, enq_names)
 
 -- FIRST THESE TESTS, AND THEN THOSE
 
@@ -56,18 +59,13 @@ split (t ∷ ts) us = one t.when t.says (first_of (ts ++ us)) (first_of ts) (spl
   where
     one : (b : Bool) (n : No) (a v : Verdict) → a ≡ on_go v (first_of us) v
         → pick b (saying n) a ≡ on_go (pick b (saying n) v) (first_of us) (pick b (saying n) v)
-    one true (refusal w) a v e = refl
-    one true (fault w) a v e = refl
+    one true n a v e = refl
     one false n a v e = e
 
 -- what the test of a verdict says
-pub go_is : (v : Verdict) (b : Bool) → b ≡ is_go v → not b ≡ false → v ≡ Go
-go_is v b e h = one v (bad_failed b (is_go v) e h)
-  where
-    one : (u : Verdict) → not (is_go u) ≡ false → u ≡ Go
-    one Go k = refl
-    one (Refuse why) k = absurd (false≢true (sym k))
-    one (Fail what) k = absurd (false≢true (sym k))
+pub go_is : (v : Verdict) (b : Bool) → b ≡ is_err v → b ≡ false → v ≡ Ok tt
+go_is (Ok _) b e h = refl
+go_is (Err n) b e h = absurd (false≢true (sym h ∙ e))
 
 -- the verdict, and the looks that are made where the first tests go on
 abbrev pub found_by : Verdict → Verdict → Looks → Found
@@ -84,48 +82,30 @@ module _ (ts us : List Check) (looks : Looks) (all : Verdict) (parts : all ≡ f
   found_is : found_by (first_of ts) (first_of us) looks ≡ found
   found_is = λ i. record { verdict = sym first_then i; looks = on_go (first_of ts) looks no_looks }
 
-  pub found_stops : (r : Found) (v : Verdict) (b : Bool) → v ≡ first_of ts → b ≡ is_go v → not b ≡ true → r ≡ unlooked_by v
+  pub found_stops : (r : Found) (v : Verdict) (b : Bool) → v ≡ first_of ts → b ≡ is_err v → b ≡ true → r ≡ unlooked_by v
       → r ≡ found
-  found_stops r v b e g h p =
-      p ∙ one v (bad_held b (is_go v) g h) ∙ ap (λ (u : Verdict). found_by u (first_of us) looks) e ∙ found_is
+  found_stops r v b e g h p = p ∙ one v (sym g ∙ h) ∙ ap (λ (u : Verdict). found_by u (first_of us) looks) e ∙ found_is
     where
-      one : (u : Verdict) → not (is_go u) ≡ true → unlooked_by u ≡ found_by u (first_of us) looks
-      one Go k = absurd (false≢true k)
-      one (Refuse why) k = refl
-      one (Fail what) k = refl
+      one : (u : Verdict) → is_err u ≡ true → unlooked_by u ≡ found_by u (first_of us) looks
+      one (Ok _) k = absurd (false≢true k)
+      one (Err n) k = refl
 
-  pub found_goes : (r : Found) (v : Verdict) → v ≡ first_of ts → v ≡ Go → r.verdict ≡ first_of us → r.looks ≡ looks
+  pub found_goes : (r : Found) (v : Verdict) → v ≡ first_of ts → v ≡ Ok tt → r.verdict ≡ first_of us → r.looks ≡ looks
       → r ≡ found
   found_goes r v e h p k =
       (λ i. record { verdict = p i; looks = k i })
       ∙ ap (λ (u : Verdict). found_by u (first_of us) looks) (sym h ∙ e) ∙ found_is
 
   -- where they all go on, the looks were made
-  pub found_went : (r : Found) (b : Bool) → r ≡ found → b ≡ is_go r.verdict → not b ≡ false
-      → (all ≡ Go) × (r.looks ≡ looks)
+  pub found_went : (r : Found) (b : Bool) → r ≡ found → b ≡ is_err r.verdict → b ≡ false
+      → (all ≡ Ok tt) × (r.looks ≡ looks)
   found_went r b e g h =
       let v = sym (ap (λ (x : Found). x.verdict) e) ∙ go_is r.verdict b g h in
       (v, ap (λ (x : Found). x.looks) e ∙ one (first_of ts) (sym first_then ∙ v))
     where
-      one : (u : Verdict) → on_go u (first_of us) u ≡ Go → on_go u looks no_looks ≡ looks
-      one Go k = refl
-      one (Refuse why) k = cc
-      one (Fail what) k = cc
-
--- THE CODES AREA against the count
-pub short_is : (l : PointedList) (room : ℕ) (due : Bool) → l.count ≤ length l.names
-    → (due && ltb room l.count) ≡ (due && too_short room (pointed_in l))
-unfolding too_short
-short_is l room due h = rw (asks_length l h)
-
--- 104, 201 and 202 by what was found to be due
-pub short_of : (r d due b v : Bool) → r ≡ (d && b) → d ≡ due → r ≡ v → (due && b) ≡ v
-short_of r d due b v e p h = rw (← p, ← e) h
-
-pub error_of : (d due zero v : Bool) → d ≡ due → (not d && not zero) ≡ v → (not due && not zero) ≡ v
-error_of d due zero v p h = rw (← p) h
-
-pub ruleset asked = (short_of, error_of, judged)
+      one : (u : Verdict) → on_go u (first_of us) u ≡ Ok tt → on_go u looks no_looks ≡ looks
+      one (Ok _) k = refl
+      one (Err n) k = cc
 
 -- the tests of the queue, behind those of the request
 abbrev pub enq_rest : List Entry → ℕ → Ret → Names → List Check
@@ -270,6 +250,12 @@ module _ (ret : Ret) (q : List Entry) (c : ℕ) (l : Names) where
       one true h = few_as ret q c l m (fresh_counted ret q c l ∙ ap length (fresh_queued ret q c l d h))
       one false h = few_as ret q c l 0 (ap length (sym (none_queued ret q c l h)))
 
+  abbrev twice : Verdict
+  twice = Err (Fail DuplicateEnq)
+
+  abbrev full : Verdict
+  full = Err (Refuse NoEntryFree)
+
   -- 201 and 105
   pub weighed_is : (looks : Looks) (count n : ℕ) → looks ≡ enq_looks ret q c l → count ≡ length q
       → n ≡ length l.asks → first_of (enq_weighed ret looks count n) ≡ first_of (enq_rest q c ret l)
@@ -278,10 +264,10 @@ module _ (ret : Ret) (q : List Entry) (c : ℕ) (l : Names) where
       rw (e, p, k, duplicated_is q c ret l) (one (duplicated ret q c l) refl)
     where
       one : (b : Bool) → duplicated ret q c l ≡ b
-          → pick b (Fail DuplicateEnq) (pick (few_free ret (enq_looks ret q c l) (length q) (length l.asks))
-          (Refuse NoEntryFree) Go) ≡ pick b (Fail DuplicateEnq) (pick (too_few_free ret q c l) (Refuse NoEntryFree) Go)
+          → pick b twice (pick (few_free ret (enq_looks ret q c l) (length q) (length l.asks)) full (Ok tt))
+          ≡ pick b twice (pick (too_few_free ret q c l) full (Ok tt))
       one true d = refl
-      one false d = ap (λ (x : Bool). pick x (Refuse NoEntryFree) Go) (few_is d)
+      one false d = ap (λ (x : Bool). pick x full (Ok tt)) (few_is d)
 
 -- 202
 pub deq_weighed_is : (ret : DeqRet) (q : List Entry) (c : ℕ) (l : Names) (looks : Looks) → looks ≡ deq_looks q c l

@@ -1,6 +1,6 @@
 -- The looks at the names beside a request, from the flags of each: their codes, and whether every code is 0.
 use mathlib.Core.Path.{◌≡◌, refl, sym, ap, ap₂, ◌∙◌}
-use mathlib.Core.Bool.{Bool, true, false, ◌&&◌, and-true}
+use mathlib.Core.Bool.{Bool, true, false, not, ◌&&◌, and-true}
 use mathlib.Core.List.{List, [], ◌∷◌, map}
 use Prim.Native.Nat.{ℕ, ◌+◌, ◌≤◌, ◌<◌}
 use native.Mathlib.Omega.{arith}
@@ -8,11 +8,14 @@ use native.Mathlib.Nat.{zero-add}
 use lib.Dec.{eqb}
 use lib.ListN.{length, get_or, take, set, replicate, get_or-replicate, get_or-map}
 use lib.Seq.{get_or-take}
-use Rattle.lists.specs.Lists.{numbers}
-use Rattle.lists.specs.Pick.{pick}
+use Rattle.std.proofs.lemmas.List.{length-take}
+use Rattle.lists.specs.Arrays.{mapped_length}
+use Rattle.lists.specs.Lists.{numbers, how_many}
+use Rattle.lists.specs.Pick.{pick, pick_true, pick_false}
 use Rattle.lists.specs.Numbered.{length_numbers}
 use Rattle.lists.specs.Every.{every_append}
 use Rattle.lists.specs.Changing.{map_next}
+use Rattle.lists.specs.Setting.{how_many_few}
 use Rattle.lists.specs.Filling.{number_at, by_number}
 use Rattle.kinds.specs.Limits.{longest_list}
 use Rattle.kinds.specs.declared.names.Pointed.{Pointed}
@@ -29,7 +32,7 @@ use Rattle.laws.specs.Among.{eqb_swap}
 use Rattle.queue.specs.Flagging.{flags_of}
 use Rattle.queue.specs.declared.looks.Flags.{Flags}
 use Rattle.queue.proofs.Filled.{Filled, none_filled, filled_next, filled_all}
-use Rattle.queue.proofs.Flagged.{asks_length, flag_at}
+use Rattle.queue.proofs.Flagged.{asks_length, flag_at, flags_but}
 use Rattle.resources.specs.Coding.{codes_of, code_by, code_at, wants_entry, all_clear, clear_for}
 use Rattle.resources.specs.Looking.{told_by, looks_of, looks_as, entered, held_code, enq_looks, deq_looks}
 use Rattle.resources.specs.declared.looks.Looks.{Looks}
@@ -60,6 +63,13 @@ module _ (f : ℕ → ℕ) where
 
       at : f (get_or ns i 0) ≡ b
       at = ap f (number_at 0 longest_list i 0 h ∙ zero-add i) ∙ sym e
+
+-- the names are as many as their count
+pub ruleset counted = (asks_length, flags_but, mapped_length, pick_true, pick_false)
+
+-- of the first n flags no more are counted than n
+pub fresh_few : (n : ℕ) (l : List Bool) → how_many not (take n l) ≤ n
+fresh_few n l = omega (arith, how_many_few not (take n l), length-take n l)
 
 -- the looks that they make
 pub told_is : (has clear : Flags) (wanted : Bool) (i n : ℕ) (r : Looks) → r.has ≡ has → i ≡ n

@@ -4,11 +4,9 @@ use Rattle.lists.specs.Lists.{every, unskipped}
 use Rattle.lists.specs.Pick.{pick}
 use Rattle.kinds.specs.Tasks.{with_condition}
 use Rattle.kinds.specs.declared.numbers.TaskNumber.{TaskNumber}
-use Rattle.kinds.specs.declared.replies.Gate.TheVariants.{Open}
+use Rattle.std.specs.Prelude.{Ok}
 use Rattle.kinds.specs.declared.replies.Reply.{Reply}
 use Rattle.kinds.specs.declared.replies.Reply.TheVariants.{Done, Four}
-use Rattle.kinds.specs.declared.replies.Verdict.{Verdict}
-use Rattle.kinds.specs.declared.replies.Verdict.TheVariants.{Go, Refuse, Fail}
 use Rattle.kinds.specs.declared.requests.DeqRet.{DeqRet}
 use Rattle.kinds.specs.declared.requests.Ret.{Ret}
 use Rattle.kinds.specs.declared.tasks.Task.{Task}
@@ -25,11 +23,6 @@ use Rattle.queue.specs.declared.Queue.{Queue}
 use Rattle.resources.specs.Coding.{wants_entry, asks_free}
 use Rattle.resources.specs.Looking.{queues_by, enq_looks}
 use Rattle.resources.specs.declared.looks.Looks.{Looks}
-
-abbrev pub is_go : Verdict → Bool
-is_go Go = true
-is_go (Refuse why) = false
-is_go (Fail what) = false
 
 -- "answer 0 if every code is 0, else 4"
 abbrev pub reply_to : Bool → Reply
@@ -66,9 +59,9 @@ written_if due codes area = pick due (written_on codes area) area
 -- what the codes area holds in the end, by the verdict of the tests: after ENQ
 abbrev pub enq_leaves : Queue → TaskNumber → Ret → Names → List ℕ → List ℕ
 enq_leaves q c ret l area =
-    codes_through Open (enq_verdict (entries_in q) c ret l (length area)) area (enq_written (entries_in q) c ret l area)
+    codes_through (Ok tt) (enq_verdict (entries_in q) c ret l (length area)) area (enq_written (entries_in q) c ret l area)
 
 -- and after DEQ
 abbrev pub deq_leaves : Queue → TaskNumber → DeqRet → Names → List ℕ → List ℕ
 deq_leaves q c ret l area =
-    codes_through Open (deq_verdict (entries_in q) c ret l (length area)) area (deq_written (entries_in q) c ret l area)
+    codes_through (Ok tt) (deq_verdict (entries_in q) c ret l (length area)) area (deq_written (entries_in q) c ret l area)

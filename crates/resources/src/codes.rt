@@ -18,22 +18,13 @@ pub struct Codes {
 pub fn enq_codes_due(ret: Ret) -> bool
     ensures { result ≡ enq_codes_due ret }
 {
-    match ret {
-        Ret::None => false,
-        Ret::Test => true,
-        Ret::Use => true,
-        Ret::Have => true,
-        Ret::Chng => true,
-    }
+    !matches!(ret, Ret::None)
 }
 
 pub fn deq_codes_due(ret: DeqRet) -> bool
     ensures { result ≡ deq_codes_due ret }
 {
-    match ret {
-        DeqRet::None => false,
-        DeqRet::Have => true,
-    }
+    matches!(ret, DeqRet::Have)
 }
 
 // The code of one name: 8 where the caller has an entry and is to have none, or the other way round; else 0 where no
@@ -41,34 +32,21 @@ pub fn deq_codes_due(ret: DeqRet) -> bool
 pub(crate) fn code(has: bool, wanted: bool, clear: bool) -> u8
     ensures { result ≡ code_by has wanted clear }
 {
-    if has {
-        if wanted {
-            if clear {
-                return 0;
-            }
-            return 4;
-        }
-        return 8;
+    if has != wanted {
+        8
+    } else if clear {
+        0
+    } else {
+        4
     }
-    if wanted {
-        return 8;
-    }
-    if clear {
-        return 0;
-    }
-    4
 }
 
 // The first n codes, at the front of the area and nowhere else.
+#[tactic(auto, using(laws::specs::Written::written_all))]
 pub fn write(k: Codes, n: u32, area: &mut [u8])
     requires { (n ≤ longest_list) × (n ≤ length area.old) }
     ensures { area.new ≡ written_on (take n k.bytes) area.old }
 {
-    let count = n as usize;
-    let mut i = 0;
-    while i < count {
-        let b = k.bytes[i];
-        area[i] = b;
-        i += 1;
-    }
+    let n = n as usize;
+    area[..n].copy_from_slice(&k.bytes[..n]);
 }

@@ -9,40 +9,27 @@ ghost use Rattle.rules.specs.Tests.{first_of};
 ghost use Rattle.rules.specs.Enq.{enq_good};
 ghost use Rattle.queue.specs.Queues.{entries_in, stored_entries, PackedEntries};
 ghost use Rattle.tasks.specs.TaskTables.{task_table_of};
-ghost use Rattle.resources.specs.Looking.{queues_by, fresh_names, few_free, enq_asked, enq_weighed, enq_found};
+ghost use Rattle.resources.specs.Looking.{queues_by, fresh_names, few_free, enq_weighed, enq_found};
 ghost use Rattle.resources.specs.Serving.{EnqTold, caller_waits, queue_left, tasks_left, enq_leaves};
 
 use crate::codes::enq_codes_due;
 use crate::looks::{Looks, asks_free, enq_looks, wants_entry};
-use crate::{Found, goes_on, reply_to, too_short, unlooked, write_due};
-use kinds::{Condition, Fault, PointedList, Refusal, Ret, Slot, TaskNumber, Verdict};
+use crate::{Found, asked, reply_to, unlooked, write_due};
+use kinds::{Condition, Fault, No, PointedList, Refusal, Ret, Slot, TaskNumber};
 use queue::Queue;
-use queue::looks::Flags;
+use queue::looks::{Flags, all_set_but, available};
 use tables::AllTables;
 use tables::made::{Made, goes, stays};
 use tasks::TaskTable;
-
-// What the request alone says, apart from its names: 104.
-fn enq_asked(ret: Ret, l: PointedList, room: usize) -> Verdict
-    requires { l.count ≤ longest_list }
-    ensures { result ≡ first_of (enq_asked ret (pointed_in l) room) }
-{
-    if too_short(enq_codes_due(ret), l, room) {
-        return Verdict::Refuse(Refusal::ShortArea);
-    }
-    Verdict::Go
-}
 
 // Names are queued for, under USE only if every code is 0.
 fn queues(ret: Ret, zero: bool) -> bool
     ensures { result ≡ queues_by ret zero }
 {
     match ret {
-        Ret::None => true,
-        Ret::Test => false,
+        Ret::None | Ret::Have => true,
         Ret::Use => zero,
-        Ret::Have => true,
-        Ret::Chng => false,
+        Ret::Test | Ret::Chng => false,
     }
 }
 
@@ -51,44 +38,32 @@ fn fresh_names(has: Flags, n: u32) -> usize
     requires { n ≤ longest_list }
     ensures { result ≡ fresh_names has n }
 {
-    let m = n as usize;
-    let mut count: usize = 0;
-    let mut i = 0;
-    while i < m {
-        let h = has.of[i];
-        if !h {
-            count += 1;
-        }
-        i += 1;
-    }
-    count
+    has.of[..n as usize].iter().filter(|h| !**h).count()
 }
 
 // 105, tested after 201. Whatever queues, queues just the names that the caller has no entry for.
+#[tactic(auto, unfolding(crate::specs::Looking::few_free), using(crate::proofs::Looked::fresh_few))]
 fn too_few_free(ret: Ret, looks: Looks, count: usize, n: u32) -> bool
     requires { (n ≤ longest_list) × (count ≤ most_entries) }
     ensures { result ≡ few_free ret looks count n }
 {
-    if !queues(ret, looks.zero) {
-        return false;
-    }
-    let has = looks.has;
-    let m = fresh_names(has, n);
-    (0 < m) & (Slot::PLACES < count + m)
+    let m = fresh_names(looks.has, n);
+    queues(ret, looks.zero) && 0 < m && Slot::PLACES < count + m
 }
 
 // What the looks say: 201, 105. Under NONE, which gives no codes, one other than 0 is the error.
-fn enq_weighed(ret: Ret, looks: Looks, count: usize, n: u32) -> Verdict
+#[tactic(auto, unfolding(lists::specs::Pick::pick))]
+fn enq_weighed(ret: Ret, looks: Looks, count: usize, n: u32) -> Result<(), No>
     requires { (n ≤ longest_list) × (count ≤ most_entries) }
     ensures { result ≡ first_of (enq_weighed ret looks count n) }
 {
-    if !enq_codes_due(ret) & !looks.zero {
-        return Verdict::Fail(Fault::DuplicateEnq);
+    if !enq_codes_due(ret) && !looks.zero {
+        return Err(No::Fail(Fault::DuplicateEnq));
     }
     if too_few_free(ret, looks, count, n) {
-        return Verdict::Refuse(Refusal::NoEntryFree);
+        return Err(No::Refuse(Refusal::NoEntryFree));
     }
-    Verdict::Go
+    Ok(())
 }
 
 // ENQ's tests of good names, 104, 201, 105: the queue is looked at where the request alone is not refused. 110 is not
@@ -97,29 +72,29 @@ pub fn enq_found(q: Queue, caller: TaskNumber, ret: Ret, l: PointedList, room: u
     requires { (q.count ≤ most_entries) × (enq_good ret (pointed_in l) ≡ true) }
     ensures { result ≡ enq_found (entries_in q) caller ret (pointed_in l) room }
 {
-    let asked = enq_asked(ret, l, room);
-    if !goes_on(asked) {
-        return unlooked(asked);
+    let verdict = asked(enq_codes_due(ret), l, room);
+    if verdict.is_err() {
+        return unlooked(verdict);
     }
     let looks = enq_looks(q, caller, ret, l);
-    let verdict = enq_weighed(ret, looks, q.count, l.count);
-    Found { verdict, looks }
+    Found {
+        verdict: enq_weighed(ret, looks, q.count, l.count),
+        looks,
+    }
 }
 
 // The caller waits for one of the names that are queued for. USE has looked before, and queues only what is available.
+#[tactic(auto, unfolding(crate::specs::Serving::caller_waits), using(crate::proofs::Looked::counted))]
 fn waits(q: Queue, ret: Ret, l: PointedList, looks: Looks) -> bool
     requires { (q.count ≤ most_entries) × (l.count ≤ longest_list) }
     ensures { result ≡ caller_waits ret (entries_in q) (pointed_in l) looks }
 {
-    if asks_free(ret) | !queues(ret, looks.zero) {
-        return false;
-    }
-    let free = queue::looks::available(q, l);
-    !queue::looks::all_set_but(free, looks.has, l.count)
+    !asks_free(ret) && queues(ret, looks.zero) && !all_set_but(available(q, l), looks.has, l.count)
 }
 
 // What each RET kind makes of the queue, USE and CHNG only if every code is 0: the names stand at the tail, but for
 // those that the caller has an entry for; under CHNG its entries for them are made exclusive.
+#[tactic(auto, unfolding(crate::specs::Serving::queue_left), using(crate::proofs::Changes::tail))]
 fn queue_left(q: Queue, caller: TaskNumber, ret: Ret, l: PointedList, looks: Looks) -> Queue
     requires { PackedEntries q × EnqTold ret (entries_in q) caller.0 (pointed_in l) looks }
     ensures { result ≡ stored_entries (queue_left ret (entries_in q) caller.0 (pointed_in l) looks.zero) }
@@ -127,13 +102,14 @@ fn queue_left(q: Queue, caller: TaskNumber, ret: Ret, l: PointedList, looks: Loo
     if queues(ret, looks.zero) {
         return queue::queuing::with_tail(q, caller, l, looks.has);
     }
-    if wants_entry(ret) & looks.zero {
+    if wants_entry(ret) && looks.zero {
         return queue::queuing::made_exclusive(q, caller, l);
     }
     q
 }
 
 // And of the tasks: nobody but the caller begins to wait. Where it alone owns, CHNG changes nobody's control.
+#[tactic(auto, unfolding(crate::specs::Serving::tasks_left, lists::specs::Pick::pick))]
 fn tasks_left(f: TaskTable, caller: TaskNumber, waits: bool) -> TaskTable
     requires { (lowest_task ≤ caller.0) × (caller.0 ≤ highest_task) }
     ensures { result ≡ task_table_of (tasks_left f.places caller.0 waits) }
@@ -141,9 +117,8 @@ fn tasks_left(f: TaskTable, caller: TaskNumber, waits: bool) -> TaskTable
     if !waits {
         return f;
     }
-    let x = tasks::at(f, caller);
-    let y = x.with_condition(Condition::ResourceWait);
-    tasks::with_place(f, caller, y)
+    let x = tasks::at(f, caller).with_condition(Condition::ResourceWait);
+    tasks::with_place(f, caller, x)
 }
 
 // ENQ, of names that are good: its tests; where they go on, codes are written where they are due, and the names queued
@@ -155,15 +130,11 @@ pub fn served(t: AllTables, caller: TaskNumber, ret: Ret, l: PointedList, codes:
         (enq_done (step_of t) caller ret (pointed_in l)) }
     ensures codes_after { codes.new ≡ enq_leaves t.queue caller ret (pointed_in l) codes.old }
 {
-    let room = codes.len();
-    let found = enq_found(t.queue, caller, ret, l, room);
-    let verdict = found.verdict;
-    if !goes_on(verdict) {
+    let Found { verdict, looks } = enq_found(t.queue, caller, ret, l, codes.len());
+    if verdict.is_err() {
         return stays(verdict, t);
     }
-    let looks = found.looks;
-    let k = looks.codes;
-    write_due(enq_codes_due(ret), k, l, codes);
+    write_due(enq_codes_due(ret), looks.codes, l, codes);
     let q = queue_left(t.queue, caller, ret, l, looks);
     let f = tasks_left(t.tasks, caller, waits(t.queue, ret, l, looks));
     goes(

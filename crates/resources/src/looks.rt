@@ -35,30 +35,19 @@ fn all_clear() -> Flags
 pub(crate) fn wants_entry(ret: Ret) -> bool
     ensures { result ≡ wants_entry ret }
 {
-    match ret {
-        Ret::None => false,
-        Ret::Test => false,
-        Ret::Use => false,
-        Ret::Have => false,
-        Ret::Chng => true,
-    }
+    matches!(ret, Ret::Chng)
 }
 
 // The codes of TEST and USE say whether a name is available.
 pub(crate) fn asks_free(ret: Ret) -> bool
     ensures { result ≡ asks_free ret }
 {
-    match ret {
-        Ret::None => false,
-        Ret::Test => true,
-        Ret::Use => true,
-        Ret::Have => false,
-        Ret::Chng => false,
-    }
+    matches!(ret, Ret::Test | Ret::Use)
 }
 
 // Nobody else is in the way of a name: TEST and USE ask whether it is available, CHNG whether the caller alone owns it.
 // The codes of NONE and HAVE do not ask. Whether these wait is looked for only where they go on.
+#[tactic(auto, unfolding(crate::specs::Coding::clear_for, lists::specs::Pick::pick))]
 fn clear_for(q: Queue, caller: TaskNumber, ret: Ret, l: PointedList) -> Flags
     requires { (q.count ≤ most_entries) × (l.count ≤ longest_list) }
     ensures { result ≡ clear_for ret (entries_in q) caller.0 (pointed_in l) }
@@ -77,40 +66,34 @@ fn told(has: Flags, wanted: bool, clear: Flags, n: u32) -> Looks
     requires { n ≤ longest_list }
     ensures { result ≡ told_by has wanted clear n }
 {
-    let m = n as usize;
     let mut codes = Codes {
-        bytes: [0u8; NameList::MOST],
+        bytes: [0; NameList::MOST],
     };
     let mut zero = true;
-    let mut i = 0;
-    while i < m {
-        let h = has.of[i];
-        let w = clear.of[i];
-        let k = code(h, wanted, w);
+    // By place: a chain over three arrays beside each other, one of them written, is no plainer.
+    for i in 0..n as usize {
+        let k = code(has.of[i], wanted, clear.of[i]);
         codes.bytes[i] = k;
-        zero = zero & (k == 0);
-        i += 1;
+        zero &= k == 0;
     }
     Looks { has, codes, zero }
 }
 
 // Before ENQ.
+#[tactic(auto, using(crate::proofs::Looked::enq_looks_are, lists::specs::Arrays::mapped_length))]
 pub fn enq_looks(q: Queue, caller: TaskNumber, ret: Ret, l: PointedList) -> Looks
     requires { (q.count ≤ most_entries) × (l.count ≤ longest_list) }
     ensures { result ≡ enq_looks ret (entries_in q) caller.0 (pointed_in l) }
 {
-    let has = entered(q, caller, l);
     let clear = clear_for(q, caller, ret, l);
-    let wanted = wants_entry(ret);
-    told(has, wanted, clear, l.count)
+    told(entered(q, caller, l), wants_entry(ret), clear, l.count)
 }
 
 // Before DEQ, of either RET kind.
+#[tactic(auto, using(crate::proofs::Looked::deq_looks_are, lists::specs::Arrays::mapped_length))]
 pub fn deq_looks(q: Queue, caller: TaskNumber, l: PointedList) -> Looks
     requires { (q.count ≤ most_entries) × (l.count ≤ longest_list) }
     ensures { result ≡ deq_looks (entries_in q) caller.0 (pointed_in l) }
 {
-    let has = entered(q, caller, l);
-    let clear = all_clear();
-    told(has, true, clear, l.count)
+    told(entered(q, caller, l), true, all_clear(), l.count)
 }

@@ -41,7 +41,7 @@ module _ (f g : ℕ → Bool) (agree : (k : ℕ) → task_good k ≡ true → f 
       (held_same t (p ++ (e ∷ [])) l more b.1)
 
   numbers_good : every task_good (numbers 1 highest_task) ≡ true
-  unfolding between pick
+  unfolding pick
   numbers_good = refl
 
   lines_same : (q : List Entry) → tasks_good q ≡ true

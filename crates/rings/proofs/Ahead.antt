@@ -1,137 +1,129 @@
 -- The search for the first entry of a task that one of these tasks holds up, and for the first that does.
-use mathlib.Core.Path.{◌≡◌, refl, sym, ap, ap₂, ◌∙◌}
-use mathlib.Core.Bool.{Bool, true, false, not, cond, ◌&&◌, and-true, and-false}
+use mathlib.Core.Path.{◌≡◌, refl, sym, subst, ap, ap₂, ◌∙◌}
+use mathlib.Core.Bool.{Bool, true, false, cond, ◌&&◌}
 use mathlib.Core.List.{List, [], ◌∷◌, ◌++◌, map}
-use Prim.Native.Nat.{ℕ, ◌+◌, ◌*◌, ◌≤◌, ◌<◌}
+use Prim.Native.Nat.{ℕ, ◌+◌, ◌-◌, ◌*◌, ◌≤◌, ◌<◌}
 use native.Mathlib.Omega.{arith}
-use lib.Dec.{eqb, ltb}
-use lib.ListN.{length, take, get_or, length-map, length-take, length-append}
-use lib.Seq.{slice, slice_empty, length-take-le}
-use borrow.Author.Tests.{ltb-true, ltb-false, eq-eqb, ne_eqb}
+use Rattle.std.specs.Prelude.{None, Some}
+use Rattle.std.specs.List.{find}
+use native.Mathlib.Numerals.{add-one}
+use lib.ListN.{length, take, drop, get_or, length-map, length-take, length-append}
+use lib.Seq.{drop-cons, length-take-le}
+use Rattle.std.proofs.Common.{drop_of_length-le}
 use Rattle.lists.specs.Lists.{keep, numbers, gathered}
-use Rattle.lists.specs.Bools.{both}
-use Rattle.lists.specs.Every.{slice_view}
+use Rattle.lists.specs.Changing.{map_next}
 use Rattle.lists.specs.Keeping.{keep_none, length_keep}
 use Rattle.lists.specs.Filling.{number_at}
 use Rattle.kinds.specs.Limits.{highest_task}
 use Rattle.kinds.specs.declared.names.Slot.{Slot}
 use Rattle.rules.specs.Control.{Entry, of_task}
-use Rattle.rules.specs.Rings.{bars}
 use Rattle.rules.specs.Reports.{StuckTask, stuck_at, holds_up, stuck_at_from, first_stuck_at, stuck_item, itemised}
 use Rattle.laws.specs.Gathering.{gathered_append, gathered_kept, gathered_few, gathered_long}
 use Rattle.queue.specs.Queues.{entry_of}
 use Rattle.rings.specs.Listings.{stored_items, with_items, line_of}
 use Rattle.rings.specs.declared.listing.Listing.{Listing}
 use Rattle.rings.proofs.Items.{items_count, items_many, items_stored}
-use Rattle.rings.proofs.Stepping.{one_more}
 
--- the test, as the code makes it
-module _ (these : ℕ → Bool) (e x : Entry) where
-  pub own_task : x.task ≡ e.task → false ≡ holds_up these e x
-  own_task h = rw (eq-eqb x.task e.task h)
+-- the first element that passes a test, and those that do
+find_none : {A B : Type 0} (p : B → Bool) (view : A → B) (l : List A) → find (λ (a : A). p (view a)) l ≡ None
+    → keep p (map view l) ≡ []
+find_none p view [] h = refl
+find_none {A} p view (a ∷ l) h = one (p (view a)) h (find_none p view l)
+  where
+    one : (b : Bool) → cond b (Some a) (find (λ (x : A). p (view x)) l) ≡ None
+        → (find (λ (x : A). p (view x)) l ≡ None → keep p (map view l) ≡ [])
+        → cond b (view a ∷ keep p (map view l)) (keep p (map view l)) ≡ []
+    one true e ih = cc
+    one false e ih = ih e
 
-  pub other_task : these x.task ≡ false → false ≡ holds_up these e x
-  other_task h =
-      sym (ap (λ (b : Bool). (not (eqb x.task e.task) && b) && bars x e) h
-      ∙ ap (λ (b : Bool). b && bars x e) (and-false (not (eqb x.task e.task))))
+find_some : {A B C : Type 0} (p : B → Bool) (view : A → B) (f : B → C) (rest : List C) (x : A) (l : List A)
+    → find (λ (a : A). p (view a)) l ≡ Some x → take 1 (map f (keep p (map view l)) ++ rest) ≡ f (view x) ∷ []
+find_some p view f rest x [] h = cc
+find_some {A} p view f rest x (a ∷ l) h = one (p (view a)) h (find_some p view f rest x l)
+  where
+    one : (b : Bool) → cond b (Some a) (find (λ (y : A). p (view y)) l) ≡ Some x
+        → (find (λ (y : A). p (view y)) l ≡ Some x → take 1 (map f (keep p (map view l)) ++ rest) ≡ f (view x) ∷ [])
+        → take 1 (map f (cond b (view a ∷ keep p (map view l)) (keep p (map view l))) ++ rest) ≡ f (view x) ∷ []
+    one true e ih = let k : a ≡ x = cc in ap (λ (y : A). f (view y) ∷ []) k
+    one false e ih = ih e
 
-  pub one_of_these : (x.task ≡ e.task → ⊥) → these x.task ≡ true → bars x e ≡ holds_up these e x
-  one_of_these h k = rw (ne_eqb x.task e.task h, k)
+-- what is left from slot i on
+pub record From (these : ℕ → Bool) (t : ℕ) (es : List Slot) (i : ℕ) : Type 0 where
+  pub left : first_stuck_at these (map entry_of es) t
+      ≡ take 1 (stuck_at_from these t (map entry_of (take i es)) (map entry_of (drop i es)))
 
--- what is left from entry i on
-pub record From (these : ℕ → Bool) (t : ℕ) (es : List Slot) (n i : ℕ) : Type 0 where
-  pub left : first_stuck_at these (take n (map entry_of es)) t
-      ≡ take 1 (stuck_at_from these t (take i (map entry_of es)) (slice i n (map entry_of es)))
-
--- the entries from place j on, ahead of entry i, that hold it up, its own task being t or not
-abbrev pub ahead : (ℕ → Bool) → Bool → List Slot → Entry → ℕ → ℕ → List Entry
-ahead these own es e i j = keep (λ (x : Entry). own && holds_up these e x) (slice j i (map entry_of es))
-
--- what is left, with entry e at place i, from place j ahead of it on
-pub record Ahead (these : ℕ → Bool) (t : ℕ) (es : List Slot) (n i : ℕ) (e : Entry) (own : Bool) (j : ℕ) : Type 0 where
-  pub left : first_stuck_at these (take n (map entry_of es)) t
-      ≡ take 1 (map (stuck_at i e) (ahead these own es e i j)
-      ++ stuck_at_from these t (take (i + 1) (map entry_of es)) (slice (i + 1) n (map entry_of es)))
-
-module _ {these : ℕ → Bool} {t : ℕ} {es : List Slot} {n : ℕ} where
-  pub from_start : From these t es n 0
+module _ {these : ℕ → Bool} {t : ℕ} {es : List Slot} where
+  pub from_start : From these t es 0
   from_start = record { left = refl }
 
-  pub from_over : {i : ℕ} → From these t es n i → i ≡ n → first_stuck_at these (take n (map entry_of es)) t ≡ []
-  from_over {i} v e =
+  pub from_over : {i : ℕ} → From these t es i → length es ≤ i → first_stuck_at these (map entry_of es) t ≡ []
+  from_over {i} v h =
       v.left
-      ∙ ap (λ (l : List Entry). take 1 (stuck_at_from these t (take i (map entry_of es)) l))
-      (ap (λ (k : ℕ). slice k n (map entry_of es)) e ∙ slice_empty n (map entry_of es))
+      ∙ ap (λ (l : List Slot). take 1 (stuck_at_from these t (map entry_of (take i es)) (map entry_of l)))
+      (drop_of_length-le es h)
 
-  -- entry i
-  module _ {i : ℕ} (d : Slot) (h : i < n) (k : n ≤ length es) where
-    pub ahead_start : From these t es n i
-        → Ahead these t es n i (entry_of (get_or es i d)) (of_task t (entry_of (get_or es i d))) 0
-    ahead_start v = record {
-      left =
-          v.left
-          ∙ ap (λ (l : List Entry). take 1 (stuck_at_from these t (take i (map entry_of es)) l))
-          (slice_view entry_of es i n d h k)
-          ∙ ap₂ (λ (m : ℕ) (l : List Entry). take 1 (map (stuck_at m (entry_of (get_or es i d)))
-          (ahead these (of_task t (entry_of (get_or es i d))) es (entry_of (get_or es i d)) i 0)
-          ++ stuck_at_from these t l (slice (i + 1) n (map entry_of es)))) before next;
-    }
+  -- slot i, with what is found ahead of it
+  module _ {i : ℕ} (v : From these t es i) (h : i < length es) (d : Slot) where
+    abbrev here : Entry
+    here = entry_of (get_or es i d)
+
+    looked : first_stuck_at these (map entry_of es) t
+        ≡ take 1 (map (stuck_at i here) (keep (λ (x : Entry). of_task t here && holds_up these here x)
+        (map entry_of (take i es)))
+        ++ stuck_at_from these t (map entry_of (take (i + 1) es)) (map entry_of (drop (i + 1) es)))
+    looked =
+        v.left
+        ∙ ap (λ (l : List Slot). take 1 (stuck_at_from these t (map entry_of (take i es)) (map entry_of l)))
+        (drop-cons es i d h ∙ ap (λ (k : ℕ). get_or es i d ∷ drop k es) (sym (add-one i)))
+        ∙ ap₂ (λ (m : ℕ) (l : List Entry). take 1 (map (stuck_at m here)
+        (keep (λ (x : Entry). of_task t here && holds_up these here x) (map entry_of (take i es)))
+        ++ stuck_at_from these t l (map entry_of (drop (i + 1) es)))) before next
       where
-        before : length (take i (map entry_of es)) ≡ i
-        before = length-take-le i (map entry_of es) (omega (arith, length-map es entry_of))
+        before : length (map entry_of (take i es)) ≡ i
+        before = length-map (take i es) entry_of ∙ length-take-le i es (omega arith)
 
-        next : take i (map entry_of es) ++ (entry_of (get_or es i d) ∷ []) ≡ take (i + 1) (map entry_of es)
-        next = sym (one_more es i d (omega arith))
+        next : map entry_of (take i es) ++ (here ∷ []) ≡ map entry_of (take (i + 1) es)
+        next = sym (map_next entry_of es i d h)
 
-  module _ {i j : ℕ} {e : Entry} {own : Bool} (v : Ahead these t es n i e own j) where
-    -- the search goes on
-    pub ahead_on : (ltb j i && own) ≡ true → (j < i) × (own ≡ true)
-    ahead_on h = let b = both (ltb j i) own h in (ltb-true j i b.0, b.1)
-
-    -- or none is left
-    pub ahead_over : j ≤ i → (ltb j i && own) ≡ false → From these t es n (i + 1)
-    ahead_over h k = record {
+    -- another task's
+    pub from_other : of_task t here ≡ false → From these t es (i + 1)
+    from_other k = record {
       left =
-          v.left
-          ∙ ap (λ (l : List Entry). take 1 (map (stuck_at i e) l
-          ++ stuck_at_from these t (take (i + 1) (map entry_of es)) (slice (i + 1) n (map entry_of es)))) (nothing own k);
+          looked
+          ∙ ap (λ (b : Bool). take 1 (map (stuck_at i here) (keep (λ (x : Entry). b && holds_up these here x)
+          (map entry_of (take i es)))
+          ++ stuck_at_from these t (map entry_of (take (i + 1) es)) (map entry_of (drop (i + 1) es)))) k
+          ∙ ap (λ (l : List Entry). take 1 (map (stuck_at i here) l
+          ++ stuck_at_from these t (map entry_of (take (i + 1) es)) (map entry_of (drop (i + 1) es))))
+          (keep_none (map entry_of (take i es)));
     }
-      where
-        nothing : (b : Bool) → (ltb j i && b) ≡ false → ahead these b es e i j ≡ []
-        nothing true q =
-            let m : i ≤ j = ltb-false j i (sym (and-true (ltb j i)) ∙ q) in
-            let z : j ≡ i = omega arith in
-            ap (keep (λ (x : Entry). holds_up these e x))
-            (ap (λ (a : ℕ). slice a i (map entry_of es)) z ∙ slice_empty i (map entry_of es))
-        nothing false q = keep_none (slice j i (map entry_of es))
 
-    -- the one at place j
-    module _ (h : j < i) (k : i ≤ length es) (d : Slot) (mine : own ≡ true) {b : Bool}
-        (is : b ≡ holds_up these e (entry_of (get_or es j d))) where
-      here : (a : Bool) → b ≡ a → ahead these own es e i j
-          ≡ cond a (entry_of (get_or es j d) ∷ ahead these own es e i (j + 1)) (ahead these own es e i (j + 1))
-      here a q =
-          ap (keep (λ (x : Entry). own && holds_up these e x)) (slice_view entry_of es j i d h k)
-          ∙ ap (λ (x : Bool). cond x (entry_of (get_or es j d) ∷ ahead these own es e i (j + 1))
-          (ahead these own es e i (j + 1)))
-          (ap (λ (x : Bool). x && holds_up these e (entry_of (get_or es j d))) mine ∙ sym is ∙ q)
+    module _ (k : of_task t here ≡ true) where
+      mine : first_stuck_at these (map entry_of es) t
+          ≡ take 1 (map (stuck_at i here) (keep (holds_up these here) (map entry_of (take i es)))
+          ++ stuck_at_from these t (map entry_of (take (i + 1) es)) (map entry_of (drop (i + 1) es)))
+      mine =
+          looked
+          ∙ ap (λ (b : Bool). take 1 (map (stuck_at i here) (keep (λ (x : Entry). b && holds_up these here x)
+          (map entry_of (take i es)))
+          ++ stuck_at_from these t (map entry_of (take (i + 1) es)) (map entry_of (drop (i + 1) es)))) k
 
-      pub ahead_passed : b ≡ false → Ahead these t es n i e own (j + 1)
-      ahead_passed q = record {
+      pub from_free : find (λ (s : Slot). holds_up these here (entry_of s)) (take i es) ≡ None
+          → From these t es (i + 1)
+      from_free e = record {
         left =
-            v.left
-            ∙ ap (λ (l : List Entry). take 1 (map (stuck_at i e) l
-            ++ stuck_at_from these t (take (i + 1) (map entry_of es)) (slice (i + 1) n (map entry_of es))))
-            (here false q);
+            mine
+            ∙ ap (λ (l : List Entry). take 1 (map (stuck_at i here) l
+            ++ stuck_at_from these t (map entry_of (take (i + 1) es)) (map entry_of (drop (i + 1) es))))
+            (find_none (holds_up these here) entry_of (take i es) e);
       }
 
-      pub ahead_found : b ≡ true
-          → first_stuck_at these (take n (map entry_of es)) t ≡ stuck_at i e (entry_of (get_or es j d)) ∷ []
-      ahead_found q =
-          v.left
-          ∙ ap (λ (l : List Entry). take 1 (map (stuck_at i e) l
-          ++ stuck_at_from these t (take (i + 1) (map entry_of es)) (slice (i + 1) n (map entry_of es))))
-          (here true q)
+      pub from_found : (x : Slot) → find (λ (s : Slot). holds_up these here (entry_of s)) (take i es) ≡ Some x
+          → first_stuck_at these (map entry_of es) t ≡ stuck_at i here (entry_of x) ∷ []
+      from_found x e =
+          mine
+          ∙ find_some (holds_up these here) entry_of (stuck_at i here)
+          (stuck_at_from these t (map entry_of (take (i + 1) es)) (map entry_of (drop (i + 1) es))) x (take i es) e
 
 -- the line of a task
 module _ (these : ℕ → Bool) (q : List Entry) (t : ℕ) where
@@ -183,9 +175,9 @@ module _ {these : ℕ → Bool} {q : List Entry} where
         let k = few_lines these q i in
         (omega (arith, lines_long these q i), omega arith)
 
-  pub lines_next : {i : ℕ} {l s : Listing} → Lines these q i l → i < highest_task
+  one_line : {i : ℕ} {l s : Listing} → Lines these q i l → i < highest_task
       → s ≡ with_items stuck_item l (line_of these q (i + 1)) → Lines these q (i + 1) s
-  lines_next {i} {l} {s} v h e =
+  one_line {i} {l} {s} v h e =
       let m = length-append (gathered stuck_item (lines_to these q i)) (gathered stuck_item (line_of these q (i + 1))) in
       let n =
       ap length (ap (gathered stuck_item) (line_next these q i h)
@@ -196,6 +188,14 @@ module _ {these : ℕ → Bool} {q : List Entry} where
             (omega (arith, lines_long these q (i + 1))) v.so_far e
             ∙ ap (λ (xs : List StuckTask). stored_items (itemised stuck_item xs)) (sym (line_next these q i h));
       }
+
+  pub lines_next : {t : ℕ} {l s : Listing} → Lines these q (t - 1) l → 1 ≤ t → t ≤ highest_task
+      → s ≡ with_items stuck_item l (line_of these q t) → Lines these q (t + 1 - 1) s
+  lines_next {t} {l} {s} v low h e =
+      let n : t ≡ t - 1 + 1 = omega arith in
+      let m : t - 1 + 1 ≡ t + 1 - 1 = omega arith in
+      let P : ℕ → Type 0 = λ k. Lines these q k s in
+      subst P m (one_line v (omega arith) (e ∙ ap (λ (k : ℕ). with_items stuck_item l (line_of these q k)) n))
 
   pub lines_all : {i : ℕ} {l : Listing} → Lines these q i l → i ≡ highest_task
       → l ≡ stored_items (itemised stuck_item (gathered (first_stuck_at these q) (keep these (numbers 1 highest_task))))

@@ -7,10 +7,9 @@ use native.Mathlib.Omega.{arith}
 use mir.Val.{bool_byte}
 use lib.Dec.{eqb}
 use lib.ListN.{length, get_or, take, drop, length-append, length-map, length-take, take-append-drop, get_or-map}
-use lib.Seq.{slice, slice_empty, take-take, take_all, length-take-le, get_or-take}
-use Rattle.lists.specs.Lists.{keep, every, some, gathered}
+use lib.Seq.{slice, slice_empty, take_all}
+use Rattle.lists.specs.Lists.{keep, some, gathered}
 use Rattle.lists.specs.Every.{some_of}
-use Rattle.lists.specs.Loops.{all_shown}
 use Rattle.lists.specs.Keeping.{keep_append, take_map}
 use Rattle.lists.specs.Changing.{map_next}
 use Rattle.kinds.specs.Limits.{most_entries}
@@ -20,7 +19,6 @@ use Rattle.names.specs.Pointers.{pointer, same_pointer}
 use Rattle.rules.specs.Names.{Resource, same_name, firsts}
 use Rattle.rules.specs.Control.{Entry, control}
 use Rattle.rules.specs.Reports.{Standing, standing, standing_for, queue_item, itemised, queues_of, queues_list}
-use Rattle.laws.specs.Control.{free, control_each}
 use Rattle.laws.specs.SameNames.{name_sym}
 use Rattle.laws.specs.Among.{some_same, kept_none}
 use Rattle.laws.specs.Slices.{slice_more, slice_rest}
@@ -36,26 +34,27 @@ use Rattle.rings.proofs.Items.{items_stored}
 
 -- WHAT STANDS BEFORE AN ENTRY
 
-module _ (q : Queue) (k : ℕ) where
-  -- none of the first k bars e
-  pub all_free : (e : Entry) → k ≤ q.count
-      → every (λ (s : Slot). free e (entry_of s)) (take k q.slots) ≡ control (take k (entries_in q)) e
-  all_free e h =
-      all_shown entry_of (free e) k q.slots
-      ∙ ap (every (free e)) (sym (take-take k q.count (map entry_of q.slots) h))
-      ∙ sym (control_each (take k (entries_in q)) e)
+-- the slots that are used, and the entries that the first k of them and one of them show
+abbrev used : Queue → List Slot
+used q = take q.count q.slots
 
-  -- one of them is for the name
-  pub some_named : (n : NameOffset) → k ≤ q.count
-      → some (λ (s : Slot). eqb n.0 s.name.0) (take k q.slots)
-      ≡ some (same_name (pointer n.0)) (entry_names (take k (entries_in q)))
-  some_named n h =
-      sym (ap (λ (l : List Entry). some (same_name (pointer n.0)) (entry_names l))
-      (take-take k q.count (map entry_of q.slots) h ∙ take_map entry_of k q.slots)
-      ∙ some_of (λ (e : Entry). e.name) (same_name (pointer n.0)) (map entry_of (take k q.slots))
-      ∙ some_of entry_of (λ (e : Entry). same_name (pointer n.0) e.name) (take k q.slots)
-      ∙ some_same (λ (s : Slot). same_name (pointer n.0) (pointer s.name.0))
-      (λ (s : Slot). eqb n.0 s.name.0) (λ s. same_pointer n.0 s.name.0) (take k q.slots))
+pub front : (q : Queue) (k : ℕ) → map entry_of (take k (used q)) ≡ take k (entries_in q)
+front q k = sym (ap (take k) (take_map entry_of q.count q.slots) ∙ take_map entry_of k (used q))
+
+shown : (q : Queue) (i : ℕ) (d : Slot) → get_or (entries_in q) i (entry_of d) ≡ entry_of (get_or (used q) i d)
+shown q i d =
+    ap (λ (es : List Entry). get_or es i (entry_of d)) (take_map entry_of q.count q.slots)
+    ∙ get_or-map entry_of (used q) i d
+
+-- one of them is for the name
+pub some_named : (es : List Slot) (n : NameOffset)
+    → some (λ (s : Slot). eqb s.name.0 n.0) es ≡ some (same_name (pointer n.0)) (entry_names (map entry_of es))
+some_named es n =
+    sym (some_of (λ (e : Entry). e.name) (same_name (pointer n.0)) (map entry_of es)
+    ∙ some_of entry_of (λ (e : Entry). same_name (pointer n.0) e.name) es
+    ∙ some_same (λ (s : Slot). same_name (pointer n.0) (pointer s.name.0))
+    (λ (s : Slot). eqb s.name.0 n.0)
+    (λ s. name_sym (pointer n.0) (pointer s.name.0) ∙ same_pointer s.name.0 n.0) es)
 
 -- THE ENTRIES FOR A NAME
 
@@ -63,20 +62,18 @@ module _ (q : Queue) (k : ℕ) where
 abbrev stands_at : Queue → ℕ → Slot → Standing
 stands_at q j s = record { place = j; entry = entry_of s; owner = control (take j (entries_in q)) (entry_of s) }
 
-many : (q : Queue) → q.count ≤ length q.slots → length (standing (entries_in q)) ≡ q.count
-many q k =
-    standing_many [] (entries_in q)
-    ∙ length-take-le q.count (map entry_of q.slots) (rw (length-map q.slots entry_of) k)
+many : (q : Queue) → length (standing (entries_in q)) ≡ length (used q)
+many q =
+    standing_many [] (entries_in q) ∙ ap length (take_map entry_of q.count q.slots) ∙ length-map (used q) entry_of
 
-stands : (q : Queue) (j : ℕ) (d : Slot) → j < q.count → q.count ≤ length q.slots
-    → get_or (standing (entries_in q)) j (stands_at q j d) ≡ stands_at q j (get_or q.slots j d)
-stands q j d h k =
-    let n = many q k in
+stands : (q : Queue) (j : ℕ) (d : Slot) → j < length (used q)
+    → get_or (standing (entries_in q)) j (stands_at q j d) ≡ stands_at q j (get_or (used q) j d)
+stands q j d h =
+    let n = many q in
     let z : 0 + j ≡ j = omega arith in
-    let e : get_or (entries_in q) j (entry_of d) ≡ entry_of (get_or q.slots j d) =
-    get_or-take q.count (map entry_of q.slots) j (entry_of d) h ∙ get_or-map entry_of q.slots j d in
     standing_at [] (entries_in q) j (stands_at q j d) (entry_of d) (omega (arith, standing_many [] (entries_in q)))
-    ∙ ap₂ (λ (m : ℕ) (x : Entry). record { place = m; entry = x; owner = control (take j (entries_in q)) x }) z e
+    ∙ ap₂ (λ (m : ℕ) (x : Entry). record { place = m; entry = x; owner = control (take j (entries_in q)) x }) z
+    (shown q j d)
 
 -- 1 for an owner or 0 for a waiter
 pub owner_byte : {a b : Bool} → a ≡ b → bool_byte a ≡ cond b 1 0
@@ -115,56 +112,56 @@ walk_start q i n l = record {
 }
 
 module _ {q : Queue} {i : ℕ} {n : NameOffset} {l : Listing} {j : ℕ} {r : Listing} (v : Walked q i n l j r) where
-  pub walk_end : j ≡ q.count → q.count ≤ length q.slots → r ≡ with_items queue_item l (queue_from q i n)
-  walk_end e k =
-      v.so_far ∙ ap (λ (m : ℕ). with_items queue_item l (walked q i n m)) e
+  pub walk_end : length (used q) ≤ j → r ≡ with_items queue_item l (queue_from q i n)
+  walk_end e =
+      v.so_far
       ∙ ap (λ (m : List Standing). with_items queue_item l (standing_for (pointer n.0) (drop i m)))
-      (take_all q.count (standing (entries_in q)) (omega (arith, many q k)))
+      (take_all j (standing (entries_in q)) (omega (arith, many q)))
 
   -- the slot at place j, whose name is compared with n
-  module _ (low : i ≤ j) (h : j < q.count) (k : q.count ≤ length q.slots) (d : Slot) where
+  module _ (low : i ≤ j) (h : j < length (used q)) (d : Slot) where
     abbrev same : Bool
-    same = eqb (get_or q.slots j d).name.0 n.0
+    same = eqb (get_or (used q) j d).name.0 n.0
 
     one_more : walked q i n (j + 1)
-        ≡ walked q i n j ++ cond same (stands_at q j (get_or q.slots j d) ∷ []) []
+        ≡ walked q i n j ++ cond same (stands_at q j (get_or (used q) j d) ∷ []) []
     one_more =
         let s = standing (entries_in q) in
         let x = get_or s j (stands_at q j d) in
-        ap (standing_for (pointer n.0)) (slice_more s i j low (stands_at q j d) (omega (arith, many q k)))
+        ap (standing_for (pointer n.0)) (slice_more s i j low (stands_at q j d) (omega (arith, many q)))
         ∙ keep_append (λ (y : Standing). same_name y.entry.name (pointer n.0)) (slice i j s) (x ∷ [])
         ∙ ap (λ (m : List Standing). walked q i n j ++ m)
-        (ap (λ (y : Standing). standing_for (pointer n.0) (y ∷ [])) (stands q j d h k)
-        ∙ ap (λ (a : Bool). cond a (stands_at q j (get_or q.slots j d) ∷ []) [])
-        (same_pointer (get_or q.slots j d).name.0 n.0))
+        (ap (λ (y : Standing). standing_for (pointer n.0) (y ∷ [])) (stands q j d h)
+        ∙ ap (λ (a : Bool). cond a (stands_at q j (get_or (used q) j d) ∷ []) [])
+        (same_pointer (get_or (used q) j d).name.0 n.0))
 
     pub walk_passed : same ≡ false → (r' : Listing) → r' ≡ r → Walked q i n l (j + 1) r'
     walk_passed f r' e = record {
       so_far =
           e ∙ v.so_far ∙ ap (with_items queue_item l)
-          (sym (one_more ∙ ap (λ (a : Bool). walked q i n j ++ cond a (stands_at q j (get_or q.slots j d) ∷ []) []) f
+          (sym (one_more ∙ ap (λ (a : Bool). walked q i n j ++ cond a (stands_at q j (get_or (used q) j d) ∷ []) []) f
           ∙ append-nil (walked q i n j)));
     }
 
     module _ (f : same ≡ true) where
-      longer : walked q i n (j + 1) ≡ walked q i n j ++ (stands_at q j (get_or q.slots j d) ∷ [])
+      longer : walked q i n (j + 1) ≡ walked q i n j ++ (stands_at q j (get_or (used q) j d) ∷ [])
       longer =
-          one_more ∙ ap (λ (a : Bool). walked q i n j ++ cond a (stands_at q j (get_or q.slots j d) ∷ []) []) f
+          one_more ∙ ap (λ (a : Bool). walked q i n j ++ cond a (stands_at q j (get_or (used q) j d) ∷ []) []) f
 
-      pub walk_kept : (r' : Listing) → r' ≡ with_item r (queue_item (stands_at q j (get_or q.slots j d)))
+      pub walk_kept : (r' : Listing) → r' ≡ with_item r (queue_item (stands_at q j (get_or (used q) j d)))
           → Walked q i n l (j + 1) r'
       walk_kept r' e = record {
         so_far =
-            e ∙ ap (λ (m : Listing). with_item m (queue_item (stands_at q j (get_or q.slots j d)))) v.so_far
+            e ∙ ap (λ (m : Listing). with_item m (queue_item (stands_at q j (get_or (used q) j d)))) v.so_far
             ∙ sym (ap (with_items queue_item l) longer
-            ∙ items_last l (walked q i n j) (stands_at q j (get_or q.slots j d)));
+            ∙ items_last l (walked q i n j) (stands_at q j (get_or (used q) j d)));
       }
 
       few : length (walked q i n j) + 1 ≤ length (queue_from q i n)
       few =
           let s = standing (entries_in q) in
           let a : queue_from q i n ≡ walked q i n (j + 1) ++ standing_for (pointer n.0) (drop (j + 1) s) =
-          ap (standing_for (pointer n.0)) (slice_rest s i (j + 1) (omega arith) (omega (arith, many q k)))
+          ap (standing_for (pointer n.0)) (slice_rest s i (j + 1) (omega arith) (omega (arith, many q)))
           ∙ keep_append (λ (y : Standing). same_name y.entry.name (pointer n.0)) (slice i (j + 1) s)
           (drop (j + 1) s) in
           omega (
@@ -172,7 +169,7 @@ module _ {q : Queue} {i : ℕ} {n : NameOffset} {l : Listing} {j : ℕ} {r : Lis
             ap length a,
             ap length longer,
             length-append (walked q i n (j + 1)) (standing_for (pointer n.0) (drop (j + 1) s)),
-            length-append (walked q i n j) (stands_at q j (get_or q.slots j d) ∷ []),
+            length-append (walked q i n j) (stands_at q j (get_or (used q) j d) ∷ []),
           )
 
       -- there is room for it
@@ -201,9 +198,9 @@ pub group_start : (q : Queue) (l : Listing) → l ≡ stored_items (record { ite
 group_start q l e = record { so_far = e }
 
 -- they are no more than all
-grouped_few : (q : Queue) (i : ℕ) → q.count ≤ length q.slots → length (grouped q i) ≤ q.count
+grouped_few : (q : Queue) (i : ℕ) → length (grouped q i) ≤ length (used q)
 unfolding queues_of
-grouped_few q i k =
+grouped_few q i =
     let es = entries_in q in
     let new : Resource → Bool = λ n. not (some (same_name n) (entry_names (take i es))) in
     let later = keep new (firsts (entry_names (drop i es))) in
@@ -218,7 +215,7 @@ grouped_few q i k =
       ap length a,
       length-append (grouped q i) (gathered (group q) later),
       queues_many es,
-      many q k,
+      many q,
       standing_many [] es,
     )
 
@@ -230,21 +227,28 @@ none_kept n l e =
     (λ x. name_sym (name_in x) n) l
     ∙ sym (some_of name_in (same_name n) l) ∙ e)
 
-module _ {q : Queue} {i : ℕ} {l : Listing} (v : Grouped q i l) (h : i < q.count) (k : q.count ≤ length q.slots)
-    (d : Slot) where
+module _ {q : Queue} {i : ℕ} {l : Listing} (v : Grouped q i l) (h : i < length (used q)) (d : Slot) where
   -- the name at place i
   abbrev named : Resource
-  named = pointer (get_or q.slots i d).name.0
+  named = pointer (get_or (used q) i d).name.0
+
+  -- whether an entry before it has it
+  abbrev had : Bool
+  had = some (same_name named) (entry_names (map entry_of (take i (used q))))
+
+  had_is : some (same_name named) (entry_names (take i (entries_in q))) ≡ had
+  had_is = ap (λ (es : List Entry). some (same_name named) (entry_names es)) (sym (front q i))
 
   names_more : entry_names (take (i + 1) (entries_in q)) ≡ entry_names (take i (entries_in q)) ++ (named ∷ [])
   names_more =
-      let e : get_or (entries_in q) i (entry_of d) ≡ entry_of (get_or q.slots i d) =
-      get_or-take q.count (map entry_of q.slots) i (entry_of d) h ∙ get_or-map entry_of q.slots i d in
+      let e : get_or (entries_in q) i (entry_of d) ≡ entry_of (get_or (used q) i d) =
+      ap (λ (es : List Entry). get_or es i (entry_of d)) (take_map entry_of q.count q.slots)
+      ∙ get_or-map entry_of (take q.count q.slots) i d in
       map_next (λ (x : Entry). x.name) (entries_in q) i (entry_of d)
-      (omega (arith, many q k, standing_many [] (entries_in q)))
-      ∙ ap (λ (x : Entry). entry_names (take i (entries_in q)) ++ (x.name ∷ [])) e
+      (omega (arith, many q, standing_many [] (entries_in q)))
+      ∙ ap (λ (x : Entry). entry_names (take i (entries_in q)) ++ (x.name ∷ [])) (shown q i d)
 
-  groups_more : (b : Bool) → b ≡ some (same_name named) (entry_names (take i (entries_in q)))
+  groups_more : (b : Bool) → b ≡ had
       → grouped q (i + 1)
       ≡ gathered (group q)
       (firsts (entry_names (take i (entries_in q))) ++ cond b [] (named ∷ []))
@@ -252,10 +256,10 @@ module _ {q : Queue} {i : ℕ} {l : Listing} (v : Grouped q i l) (h : i < q.coun
       let ns = entry_names (take i (entries_in q)) in
       ap (λ (m : List Resource). gathered (group q) (firsts m)) names_more
       ∙ ap (gathered (group q)) (firsts_next same_names ns named
-      ∙ ap (λ (a : Bool). firsts ns ++ cond a [] (named ∷ [])) (sym t))
+      ∙ ap (λ (a : Bool). firsts ns ++ cond a [] (named ∷ [])) (had_is ∙ sym t))
 
   -- an earlier entry has the name
-  pub group_passed : (b : Bool) → b ≡ some (same_name named) (entry_names (take i (entries_in q))) → b ≡ true
+  pub group_passed : (b : Bool) → b ≡ had → b ≡ true
       → (l' : Listing) → l' ≡ l → Grouped q (i + 1) l'
   group_passed b t f l' e = record {
     so_far =
@@ -268,8 +272,8 @@ module _ {q : Queue} {i : ℕ} {l : Listing} (v : Grouped q i l) (h : i < q.coun
   }
 
   -- no earlier entry has it: its queue stands from place i on
-  module _ (b : Bool) (t : b ≡ some (same_name named) (entry_names (take i (entries_in q)))) (f : b ≡ false) where
-    whole_queue : standing_for named (standing (entries_in q)) ≡ queue_from q i (get_or q.slots i d).name
+  module _ (b : Bool) (t : b ≡ had) (f : b ≡ false) where
+    whole_queue : standing_for named (standing (entries_in q)) ≡ queue_from q i (get_or (used q) i d).name
     whole_queue =
         let s = standing (entries_in q) in
         let e : map name_in (take i s) ≡ entry_names (take i (entries_in q)) =
@@ -278,26 +282,26 @@ module _ {q : Queue} {i : ℕ} {l : Listing} (v : Grouped q i l) (h : i < q.coun
         ap (standing_for named) (sym (take-append-drop i s))
         ∙ keep_append (λ (x : Standing). same_name x.entry.name named) (take i s) (drop i s)
         ∙ ap (λ (m : List Standing). m ++ standing_for named (drop i s))
-        (none_kept named (take i s) (ap (some (same_name named)) e ∙ sym t ∙ f))
+        (none_kept named (take i s) (ap (some (same_name named)) e ∙ had_is ∙ sym t ∙ f))
 
-    with_queue : grouped q (i + 1) ≡ grouped q i ++ queue_from q i (get_or q.slots i d).name
+    with_queue : grouped q (i + 1) ≡ grouped q i ++ queue_from q i (get_or (used q) i d).name
     with_queue =
         groups_more b t
         ∙ ap (λ (a : Bool). gathered (group q) (firsts (entry_names (take i (entries_in q))) ++ cond a [] (named ∷ []))) f
         ∙ gathered_next (group q) (firsts (entry_names (take i (entries_in q)))) named
         ∙ ap (λ (m : List Standing). grouped q i ++ m) whole_queue
 
-    few_grouped : length (grouped q i) + length (queue_from q i (get_or q.slots i d).name) ≤ q.count
+    few_grouped : length (grouped q i) + length (queue_from q i (get_or (used q) i d).name) ≤ length (used q)
     few_grouped =
         omega (
           arith,
           ap length with_queue,
-          grouped_few q (i + 1) k,
-          length-append (grouped q i) (queue_from q i (get_or q.slots i d).name),
+          grouped_few q (i + 1),
+          length-append (grouped q i) (queue_from q i (get_or (used q) i d).name),
         )
 
-    pub group_room : (l.count + 2 * length (queue_from q i (get_or q.slots i d).name) ≤ 2 * q.count)
-        × (l.items + length (queue_from q i (get_or q.slots i d).name) ≤ q.count)
+    pub group_room : (l.count + 2 * length (queue_from q i (get_or (used q) i d).name) ≤ 2 * length (used q))
+        × (l.items + length (queue_from q i (get_or (used q) i d).name) ≤ length (used q))
     group_room =
         let a : l.count ≡ 2 * length (grouped q i) =
         ap (λ (m : Listing). m.count) v.so_far ∙ gathered_long queue_item 2 (λ x. refl) (grouped q i) in
@@ -305,24 +309,25 @@ module _ {q : Queue} {i : ℕ} {l : Listing} (v : Grouped q i l) (h : i < q.coun
         (omega (arith, few_grouped), omega (arith, few_grouped))
 
     pub group_kept : q.count ≤ most_entries
-        → (l' : Listing) → l' ≡ with_items queue_item l (queue_from q i (get_or q.slots i d).name) → Grouped q (i + 1) l'
+        → (l' : Listing) → l' ≡ with_items queue_item l (queue_from q i (get_or (used q) i d).name) → Grouped q (i + 1) l'
     group_kept m l' e = record {
       so_far =
-          items_stored queue_item (grouped q i) (queue_from q i (get_or q.slots i d).name) l l'
+          items_stored queue_item (grouped q i) (queue_from q i (get_or (used q) i d).name) l l'
           (omega (
             arith,
             few_grouped,
+            length-take q.count q.slots,
             gathered_long queue_item 2 (λ x. refl) (grouped q i),
-            gathered_long queue_item 2 (λ x. refl) (queue_from q i (get_or q.slots i d).name),
+            gathered_long queue_item 2 (λ x. refl) (queue_from q i (get_or (used q) i d).name),
           )) v.so_far e
           ∙ ap (λ (r : List Standing). stored_items (itemised queue_item r)) (sym with_queue);
     }
 
-pub group_end : (q : Queue) (i : ℕ) (l : Listing) → Grouped q i l → i ≡ q.count
+pub group_end : (q : Queue) (i : ℕ) (l : Listing) → Grouped q i l → length (used q) ≤ i
     → l ≡ stored_items (queues_list (entries_in q))
 unfolding queues_list queues_of
 group_end q i l v e =
-    v.so_far ∙ ap (λ (n : ℕ). stored_items (itemised queue_item (grouped q n))) e
+    v.so_far
     ∙ ap (λ (es : List Entry). stored_items (itemised queue_item
     (gathered (group q) (firsts (entry_names es)))))
-    (take_all q.count (entries_in q) (omega (arith, length-take q.count (map entry_of q.slots))))
+    (take_all i (entries_in q) (omega (arith, many q, standing_many [] (entries_in q))))

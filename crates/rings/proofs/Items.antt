@@ -1,16 +1,18 @@
 -- The list of a report, as it grows item by item, and what comes of it in an area.
 use mathlib.Core.Path.{◌≡◌, refl, sym, ap, ap₂, ◌∙◌}
 use mathlib.Core.List.{List, [], ◌∷◌, ◌++◌, append-nil}
-use Prim.Native.Nat.{ℕ, ◌+◌, ◌≤◌, ◌<◌}
+use Prim.Native.Nat.{ℕ, suc, ◌+◌, ◌≤◌, ◌<◌}
 use native.Mathlib.Omega.{arith}
-use lib.ListN.{length, take, drop, length-append}
-use lib.Seq.{append_snoc, length-take-le}
+use lib.ListN.{length, take, drop, set, length-append, length-set, take-append-drop}
+use native.Mathlib.Numerals.{add-one}
+use borrow.Rule.Slice.PartMut.{put_mid}
+use lib.Seq.{append_snoc, take-suc-set, drop-set-lt, drop-cons}
 use borrow.Author.Tests.{lt-ltb, le-ltb}
 use Rattle.lists.specs.Lists.{gathered}
 use Rattle.lists.specs.Pick.{on_true, on_false}
 use Rattle.lists.specs.Tables.{padded_take, push, one_longer}
 use Rattle.laws.specs.Gathering.{gathered_next}
-use Rattle.laws.specs.Written.{written_all}
+use Rattle.rules.specs.Codes.{written_on}
 use Rattle.kinds.specs.declared.replies.Refusal.TheVariants.{ShortArea}
 use Rattle.kinds.specs.declared.replies.Reply.TheVariants.{Counted, Refused}
 use Rattle.rules.specs.Reports.{ItemList, itemised}
@@ -53,6 +55,26 @@ item_stored r item l s h e f =
     ∙ ap (λ (m : Listing). record { bytes = m.bytes; count = m.count; items = r.items + 1 })
     (bytes_stored r.items r.bytes item h)
 
+-- the bytes of an item, written at once
+pub item_put : (l : Listing) (item : List ℕ) → l.count + length item ≤ length l.bytes
+    → record { bytes = put_mid l.count (length item) l.bytes item; count = l.count + length item; items = l.items }
+    ≡ with_bytes l item
+item_put l [] h =
+    let n : l.count + 0 ≡ l.count = omega arith in
+    λ i. record { bytes = take-append-drop l.count l.bytes i; count = n i; items = l.items }
+item_put l (b ∷ item) h =
+    let n : l.count + 1 + length item ≡ l.count + length (b ∷ item) = omega arith in
+    let t : take (l.count + 1) (set l.bytes l.count b) ≡ take l.count l.bytes ++ (b ∷ []) =
+    ap (λ (k : ℕ). take k (set l.bytes l.count b)) (add-one l.count) ∙ take-suc-set l.bytes l.count b (omega arith) in
+    let d : drop (l.count + 1) (set l.bytes l.count b) ≡ drop (suc l.count) l.bytes =
+    drop-set-lt (l.count + 1) l.bytes l.count b (omega arith) ∙ ap (λ (k : ℕ). drop k l.bytes) (add-one l.count) in
+    let c : drop (length (b ∷ item)) (drop l.count l.bytes) ≡ drop (length item) (drop (suc l.count) l.bytes) =
+    ap (drop (length (b ∷ item))) (drop-cons l.bytes l.count 0 (omega arith)) in
+    let e = ap₂ (λ (r s : List ℕ). r ++ (item ++ s)) t (ap (drop (length item)) d ∙ sym c)
+    ∙ append_snoc (take l.count l.bytes) b (item ++ drop (length (b ∷ item)) (drop l.count l.bytes)) in
+    sym (λ i. record { bytes = e i; count = n i; items = l.items })
+    ∙ item_put (with_byte l b) item (omega (arith, length-set l.bytes l.count b))
+
 -- the list of some things, with one more
 module _ {A : Type 0} (item : A → List ℕ) (xs : List A) (l : Listing) (e : l ≡ stored_items (itemised item xs)) where
   pub items_count : l.count ≡ length (gathered item xs)
@@ -83,24 +105,19 @@ items_stored {A} item xs (y ∷ ys) l s h e f =
     (items_next item xs l e y (with_item l (item y)) (omega arith) refl) f
     ∙ ap (λ (zs : List A). stored_items (itemised item zs)) (append_snoc xs y ys)
 
--- what comes of it in an area that is too short, and in one that the first i bytes were copied to
-module _ (l : Listing) (area : List ℕ) (h : l.count ≤ length l.bytes) where
-  long : length (items_in l).bytes ≡ l.count
-  long = length-take-le l.count l.bytes h
-
-  pub area_short : length area < l.count
+-- what comes of it in an area that is too short, and in one with room
+module _ (l : Listing) (area : List ℕ) where
+  pub area_short : length area < length (items_in l).bytes
       → (Refused ShortArea ≡ report_reply (items_in l) (length area)) × (area ≡ report_written (items_in l) area)
   unfolding report_reply report_written
   area_short k =
-      let t = lt-ltb (length area) (length (items_in l).bytes) (omega (arith, long)) in
+      let t = lt-ltb (length area) (length (items_in l).bytes) k in
       (on_true _ _ _ _ t refl, on_true _ _ _ _ t refl)
 
-  pub area_filled : (i : ℕ) (r : List ℕ) → l.count ≤ length area → i ≡ l.count
-      → r ≡ take i l.bytes ++ drop i area
-      → (Counted l.items ≡ report_reply (items_in l) (length area)) × (r ≡ report_written (items_in l) area)
-  unfolding report_reply report_written
-  area_filled i r k e f =
-      let t = le-ltb (length area) (length (items_in l).bytes) (omega (arith, long)) in (
-        on_false _ _ _ _ t refl,
-        on_false _ _ _ _ t (f ∙ written_all l.bytes area i l.count e h),
-      )
+  pub area_filled : length (items_in l).bytes ≤ length area
+      → (Counted l.items ≡ report_reply (items_in l) (length area))
+      × ((items_in l).bytes ++ drop (length (items_in l).bytes) area ≡ report_written (items_in l) area)
+  unfolding report_reply report_written written_on
+  area_filled k =
+      let t = le-ltb (length area) (length (items_in l).bytes) k in
+      (on_false _ _ _ _ t refl, on_false _ _ _ _ t refl)

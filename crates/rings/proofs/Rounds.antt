@@ -2,8 +2,13 @@
 use mathlib.Core.Path.{◌≡◌, refl, sym, ap, ap₂, ◌∙◌}
 use mathlib.Core.Bool.{Bool, true, false, ◌&&◌, ◌||◌}
 use mathlib.Core.List.{List}
-use Prim.Native.Nat.{ℕ, zero, suc, ◌≤◌, ◌<◌}
+use Prim.Native.Nat.{ℕ, zero, suc, ◌+◌, ◌≤◌, ◌<◌}
 use native.Mathlib.Omega.{arith}
+use denote.Param.Members.{Mut}
+use Rattle.std.specs.Fn.{Called}
+use Rattle.std.specs.Array.{IsFromFnResultFrom}
+use Rattle.std.proofs.Common.{get_or, subst}
+use Rattle.std.proofs.lemmas.Bool.{eqb-false}
 use lib.Dec.{eqb}
 use borrow.Author.Tests.{eqb-true, eq-eqb}
 use Rattle.lists.specs.Lists.{some, every}
@@ -19,6 +24,21 @@ use Rattle.queue.specs.declared.marks.Marks.{Marks}
 use Rattle.rings.specs.Ways.{way_at, ways_by, down, wide, way_at_lem, none_below}
 use Rattle.rings.specs.declared.ways.Ways.{Ways}
 use Rattle.rings.proofs.InRange.{good_high}
+
+-- an array that a closure made, place by place
+pub made_by : {F B : Type 0} (g : Mut F (ℕ × Unit {0}) B) (test : ℕ → B) (d : B) (ys : List B) (n i : ℕ) (f : F)
+    → ((x : ℕ) (y : B) (q : F) → Called g f (x, tt) y q → (q ≡ f) × (y ≡ test x)) → IsFromFnResultFrom g f ys i n
+    → (k : ℕ) → i ≤ k → k < i + n → get_or ys k d ≡ test k
+made_by g test d ys zero i f h m k low high = absurd (omega arith)
+made_by {F} {B} g test d ys (suc n) i f h m k low high =
+    let P : F → Type 0 = λ q. IsFromFnResultFrom g q ys (i + 1) n in
+    one (eqb k i) refl (made_by g test d ys n (i + 1) f h (subst P (h i m.1 m.0 m.3).0 m.4) k)
+  where
+    one : (b : Bool) → eqb k i ≡ b → (i + 1 ≤ k → k < i + 1 + n → get_or ys k d ≡ test k) → get_or ys k d ≡ test k
+    one true t ih =
+        let j : k ≡ i = eqb-true k i t in
+        ap (λ (x : ℕ). get_or ys x d) j ∙ m.2.1 d ∙ (h i m.1 m.0 m.3).1 ∙ ap test (sym j)
+    one false t ih = let ne : k ≡ i → ⊥ = eqb-false k i t in ih (omega arith) (omega arith)
 
 -- among the numbers of the table
 down_has : (a n : ℕ) → a < n → some (eqb a) (down n) ≡ true

@@ -2,15 +2,13 @@
 use mathlib.Core.Path.{◌≡◌, refl, sym, ap, ap₂, ◌∙◌}
 use mathlib.Core.Bool.{Bool, true, false, not, ◌&&◌, ◌||◌, or-false, or_assoc, and-false}
 use mathlib.Core.List.{List, [], ◌∷◌, ◌++◌, map, append-nil}
-use Prim.Native.Nat.{ℕ, ◌+◌, ◌*◌, ◌/◌, ◌%◌, ◌<◌}
-use native.Mathlib.Numerals.{add-one}
-use native.Mathlib.Omega.{arith}
-use lib.Dec.{eqb, ltb}
-use lib.ListN.{length, take, get_or, set, replicate, length-map, length-replicate, get_or-replicate, get_or-map}
-use lib.Seq.{take-suc, append_snoc}
-use borrow.Author.Tests.{ltb-true, eqb-true, eq-eqb, ne_eqb, lt-ltb}
+use Prim.Native.Nat.{ℕ, ◌+◌, ◌*◌, ◌/◌, ◌%◌, ◌≤◌, ◌<◌}
+use lib.Dec.{eqb}
+use lib.ListN.{length, take, get_or, set, replicate, length-replicate, get_or-replicate}
+use lib.Seq.{append_snoc, take_all}
+use Rattle.lists.specs.Changing.{map_next}
+use borrow.Author.Tests.{eqb-true, eq-eqb}
 use Rattle.lists.specs.Lists.{some}
-use Rattle.lists.specs.Bools.{both, join, never}
 use Rattle.lists.specs.Every.{some_append}
 use Rattle.kinds.specs.declared.names.Slot.{Slot}
 use Rattle.rules.specs.Control.{Entry, of_task, control}
@@ -80,14 +78,6 @@ step_here : (e x : Entry)
     → step_by e e.task x.task x ≡ (not (eqb e.task x.task) && bars x e)
 step_here e x = rw (eq-eqb e.task e.task refl, eq-eqb x.task x.task refl)
 
--- how one comes out that was not known
-pub stepped_same : (known s : Bool) (a b : ℕ) → known ≡ false → a ≡ b → false ≡ (known || (not (eqb a b) && s))
-stepped_same known s a b h e = rw (h, eq-eqb a b e)
-
-pub stepped_other : (known so s : Bool) (a b : ℕ) → known ≡ false → (a ≡ b → ⊥) → so ≡ s
-    → so ≡ (known || (not (eqb a b) && s))
-stepped_other known so s a b h n e = rw (h, ne_eqb a b n) e
-
 -- THE TABLE
 pub none_full : Full (waits_for []) (record { of = replicate all_ways false })
 unfolding waits_for
@@ -113,65 +103,48 @@ module _ (l : List Entry) (e : Entry) (p : List Entry) (x : Entry) (m : Ways) (v
       (λ c d n. no_step c d (step_other e x c d n)) v
 
   -- one of them has none, and x is passed over
-  step_past : (ltb e.task wide && ltb x.task wide) ≡ false → Full (steps_with l e (p ++ (x ∷ []))) m
+  step_past : (e.task < wide → x.task < wide → ⊥) → Full (steps_with l e (p ++ (x ∷ []))) m
   step_past t =
       full_same (steps_with l e p) (steps_with l e (p ++ (x ∷ []))) m
-      (λ a b h k. no_step a b (step_other e x a b (λ u w.
-      never (ltb e.task wide && ltb x.task wide)
-      (join (ltb e.task wide) (ltb x.task wide) (lt-ltb e.task wide (rw u h))
-      (lt-ltb x.task wide (rw w k))) t))) v
+      (λ a b h k. no_step a b (step_other e x a b (λ u w. t (rw u h) (rw w k)))) v
 
 -- ALONG THE LOOPS, over slots
-pub one_more : (es : List Slot) (i : ℕ) (d : Slot) → i < length es
-    → take (i + 1) (map entry_of es) ≡ take i (map entry_of es) ++ (entry_of (get_or es i d) ∷ [])
-one_more es i d h =
-    rw (add-one) (take-suc (map entry_of es) i (entry_of d) (omega (arith, length-map es entry_of)))
-    ∙ ap (λ (x : Entry). take i (map entry_of es) ++ (x ∷ [])) (get_or-map entry_of es i d)
 
--- the table has the steps of the first i slots, and those of e, which is the next, by the first j
-pub record Stepping (es : List Slot) (e : Slot) (i j : ℕ) (m : Ways) : Type 0 where
-  pub yet : Full (steps_with (take i (map entry_of es)) (entry_of e) (take j (map entry_of es))) m
+-- the table has the steps of these slots, and those of e, which is the next, by the first j of them
+pub record Stepping (es : List Slot) (e : Slot) (j : ℕ) (m : Ways) : Type 0 where
+  pub yet : Full (steps_with (map entry_of es) (entry_of e) (map entry_of (take j es))) m
 
-pub steps_start : (es : List Slot) (e : Slot) (i : ℕ) (m : Ways) → Full (waits_for (take i (map entry_of es))) m
-    → Stepping es e i 0 m
-steps_start es e i m v = record {
+pub steps_start : (es : List Slot) (e : Slot) (m : Ways) → Full (waits_for (map entry_of es)) m → Stepping es e 0 m
+steps_start es e m v = record {
   yet =
-      full_same (waits_for (take i (map entry_of es))) (steps_with (take i (map entry_of es)) (entry_of e) []) m
-      (λ a b h k. sym (or-false (waits_for (take i (map entry_of es)) a b))) v;
+      full_same (waits_for (map entry_of es)) (steps_with (map entry_of es) (entry_of e) []) m
+      (λ a b h k. sym (or-false (waits_for (map entry_of es) a b))) v;
 }
 
-module _ {es : List Slot} {e : Slot} {i j : ℕ} {m : Ways} (v : Stepping es e i j m) (d : Slot) where
-  pub steps_at : (ltb e.task.0 wide && ltb (get_or es j d).task.0 wide) ≡ true
-      → (e.task.0 < wide) × ((get_or es j d).task.0 < wide)
-  steps_at t =
-      let k = both (ltb e.task.0 wide) (ltb (get_or es j d).task.0 wide) t in
-      (ltb-true e.task.0 wide k.0, ltb-true (get_or es j d).task.0 wide k.1)
+module _ {es : List Slot} {e : Slot} {j : ℕ} {m : Ways} (v : Stepping es e j m) where
+  module _ (h : j < length es) (d : Slot) where
+    pub steps_next : (so : Bool) → e.task.0 < wide → (get_or es j d).task.0 < wide
+        → so ≡ (way_at m e.task.0 (get_or es j d).task.0
+        || (not (eqb e.task.0 (get_or es j d).task.0) && bars (entry_of (get_or es j d)) (entry_of e)))
+        → Stepping es e (j + 1) (record { of = set m.of (e.task.0 * wide + (get_or es j d).task.0) so })
+    steps_next so s t k = record {
+      yet =
+          rw (map_next entry_of es j d h) (step_written (map entry_of es) (entry_of e) (map entry_of (take j es))
+          (entry_of (get_or es j d)) m v.yet so s t k);
+    }
 
-  pub steps_next : (so : Bool) → j < length es → (ltb e.task.0 wide && ltb (get_or es j d).task.0 wide) ≡ true
-      → so ≡ (way_at m e.task.0 (get_or es j d).task.0
-      || (not (eqb e.task.0 (get_or es j d).task.0) && bars (entry_of (get_or es j d)) (entry_of e)))
-      → Stepping es e i (j + 1) (record { of = set m.of (e.task.0 * wide + (get_or es j d).task.0) so })
-  steps_next so h t k = record {
-    yet =
-        rw (one_more es j d h) (step_written (take i (map entry_of es)) (entry_of e) (take j (map entry_of es))
-        (entry_of (get_or es j d)) m v.yet so (steps_at t).0 (steps_at t).1 k);
-  }
+    pub steps_past : (e.task.0 < wide → (get_or es j d).task.0 < wide → ⊥) → Stepping es e (j + 1) m
+    steps_past t = record {
+      yet =
+          rw (map_next entry_of es j d h) (step_past (map entry_of es) (entry_of e) (map entry_of (take j es))
+          (entry_of (get_or es j d)) m v.yet t);
+    }
 
-  pub steps_past : j < length es → (ltb e.task.0 wide && ltb (get_or es j d).task.0 wide) ≡ false
-      → Stepping es e i (j + 1) m
-  steps_past h t = record {
-    yet =
-        rw (one_more es j d h) (step_past (take i (map entry_of es)) (entry_of e) (take j (map entry_of es))
-        (entry_of (get_or es j d)) m v.yet t);
-  }
-
--- all before it are passed
-pub steps_end : {es : List Slot} {i j : ℕ} {m : Ways} (d : Slot) → Stepping es (get_or es i d) i j m → i < length es
-    → j ≡ i → Full (waits_for (take (i + 1) (map entry_of es))) m
-steps_end {es} {i} {j} {m} d v h e =
-    full_same (steps_with (take i (map entry_of es)) (entry_of (get_or es i d)) (take j (map entry_of es)))
-    (waits_for (take (i + 1) (map entry_of es))) m
-    (λ a b p q.
-    ap (λ (k : ℕ). steps_with (take i (map entry_of es)) (entry_of (get_or es i d)) (take k (map entry_of es)) a b) e
-    ∙ all_passed (take i (map entry_of es)) (entry_of (get_or es i d)) a b
-    ∙ ap (λ (r : List Entry). waits_for r a b) (sym (one_more es i d h))) v.yet
+  -- all before it are passed
+  pub steps_end : length es ≤ j → Full (waits_for (map entry_of es ++ (entry_of e ∷ []))) m
+  steps_end h =
+      full_same (steps_with (map entry_of es) (entry_of e) (map entry_of (take j es)))
+      (waits_for (map entry_of es ++ (entry_of e ∷ []))) m
+      (λ a b p q.
+      ap (λ (l : List Slot). steps_with (map entry_of es) (entry_of e) (map entry_of l) a b) (take_all j es h)
+      ∙ all_passed (map entry_of es) (entry_of e) a b) v.yet

@@ -1,9 +1,12 @@
 -- The table of ways from task to task, and by way of one more.
-use Rattle.std.specs.Prelude.{◌≡◌, refl, Bool, true, false, ◌&&◌, ◌||◌, List, [], ◌∷◌, map, ℕ, zero, suc, ◌+◌, ◌-◌, ◌*◌, ◌/◌, ◌%◌, ◌≤◌, ◌<◌, eqb, length, get_or, set}
+use Rattle.std.specs.Prelude.{◌≡◌, refl, Bool, true, false, ◌&&◌, ◌||◌, List, [], ◌∷◌, map, ℕ, zero, suc, ◌+◌, ◌-◌, ◌*◌, ◌/◌, ◌%◌, ◌≤◌, ◌<◌, eqb, length, get_or, set, take, drop}
 use Rattle.std.proofs.Common.{sym, ap, ap₂, ◌∙◌, add-one, arith, length-set, get_or-set_same, get_or-set_other, ext_get_or, eqb-true}
-use Rattle.std.proofs.lemmas.List.{length-map}
+use Rattle.std.proofs.Math.Bool.{or-false, or_comm}
+use Rattle.std.proofs.Math.Seq.{take-suc}
+use Rattle.std.proofs.lemmas.List.{length-map, length-drop, get_or-drop}
 use Rattle.std.proofs.lemmas.Bool.{eqb-false}
 use Rattle.lists.specs.Lists.{numbers, some}
+use Rattle.lists.specs.Every.{some_append}
 use Rattle.lists.specs.Bools.{or_left, or_right}
 use Rattle.lists.specs.Numbered.{length_numbers, numbers_at}
 use Rattle.kinds.specs.Limits.{highest_task}
@@ -158,6 +161,24 @@ module _ {m : Ways} {k n : ℕ} (v : LeadsYet m k n) where
     pub leads_further : b ≡ false → LeadsYet m k (n - 1)
     leads_further e = record { left = looked ∙ rw e }
 
+-- some place of a row's first n has a way
+some_below : (l : List Bool) (f : ℕ → Bool) (n : ℕ) → n ≤ length l → ((i : ℕ) → i < n → get_or l i false ≡ f i)
+    → some (λ (b : Bool). b) (take n l) ≡ some f (down n)
+some_below l f zero h e = refl
+some_below l f (suc n) h e =
+    ap (some (λ (b : Bool). b)) (take-suc l n false (omega arith))
+    ∙ some_append (λ (b : Bool). b) (take n l) (get_or l n false ∷ [])
+    ∙ or_comm (some (λ (b : Bool). b) (take n l)) (get_or l n false || false)
+    ∙ ap₂ (λ (a b : Bool). a || b) (or-false (get_or l n false) ∙ e n (omega arith))
+    (some_below l f n (omega arith) (λ i k. e i (omega arith)))
+
+pub row_leads : (m : Ways) (k : ℕ) → length m.of ≡ all_ways → k < wide
+    → some (λ (b : Bool). b) (take wide (drop (k * wide) m.of)) ≡ leads_on m k
+unfolding leads_on
+row_leads m k h l =
+    some_below (drop (k * wide) m.of) (way_at m k) wide (omega (arith, length-drop (k * wide) m.of))
+    (λ i j. get_or-drop (k * wide) m.of i false)
+
 -- BY WAY OF k TOO
 abbrev pub joined_by : Ways → ℕ → ℕ → ℕ → Bool
 joined_by m k a b = way_at m a b || (way_at m a k && way_at m k b)
@@ -184,18 +205,6 @@ joined_none m k h e =
     none false true = refl
     none false false = refl
 
-pub joined_next : (m r : Ways) (k n : ℕ) → n < all_ways → Filled (joined_by m k) n r
-    → Filled (joined_by m k) (n + 1)
-    (record {
-      of = set r.of n (get_or m.of n false
-          || (get_or m.of (n / wide * wide + k) false && get_or m.of (k * wide + n % wide) false));
-    })
-joined_next m r k n h v =
-    let e : n ≡ n / wide * wide + n % wide = omega arith in
-    filled_next (joined_by m k) n r _ h
-    (ap (λ (j : ℕ). get_or m.of j false
-    || (get_or m.of (n / wide * wide + k) false && get_or m.of (k * wide + n % wide) false)) e) v
-
 -- one number more to pass
 pub joined_by_lem : (w : ℕ → ℕ → Bool) (m : Ways) (k : ℕ) → k < wide → m ≡ ways_by (leads_by w (down k))
     → ways_by (joined_by m k) ≡ ways_by (leads_by w (down (k + 1)))
@@ -212,3 +221,15 @@ joined_by_lem w m k h e =
 pub ways_none : (m : Ways) → length m.of ≡ all_ways → m ≡ ways_by (leads_by (way_at m) (down 0))
 unfolding leads_by
 ways_none m h = ways_whole m h
+
+pub joined_next : (m r : Ways) (k n : ℕ) → n < all_ways → Filled (joined_by m k) n r
+    → Filled (joined_by m k) (n + 1)
+    (record {
+      of = set r.of n (get_or m.of n false
+          || (get_or m.of (n / wide * wide + k) false && get_or m.of (k * wide + n % wide) false));
+    })
+joined_next m r k n h v =
+    let e : n ≡ n / wide * wide + n % wide = omega arith in
+    filled_next (joined_by m k) n r _ h
+    (ap (λ (j : ℕ). get_or m.of j false
+    || (get_or m.of (n / wide * wide + k) false && get_or m.of (k * wide + n % wide) false)) e) v

@@ -16,20 +16,16 @@ ghost use Rattle.queue.specs.Queues.{entries_in};
 ghost use Rattle.queue.specs.Marking.{marked_by};
 
 use queue::{Marks, Queue};
+use std::array;
 
 // The tasks that are on a ring: steps lead from each back to itself.
-pub(crate) fn stuck(q: Queue) -> Marks
-    requires count_le_most_entries { q.count ≤ most_entries }
-    requires q_value { every (λ e. task_good e.task) (entries_in q) ≡ true }
-    ensures { result ≡ marked_by (stuck_of (entries_in q)) }
+pub(crate) fn stuck(q: &Queue) -> Marks
+    requires count_le_most_entries { q.now.count ≤ most_entries }
+    requires q_value { every (λ e. task_good e.task) (entries_in q.now) ≡ true }
+    ensures { result ≡ marked_by (stuck_of (entries_in q.now)) }
 {
-    let s = ways::steps(q);
-    let w = ways::closed(s);
-    let mut r = queue::no_marks();
-    let mut t = 0;
-    while t < Marks::PLACES {
-        r.tasks[t] = w.of[t * Marks::PLACES + t];
-        t += 1;
+    let w = ways::closed(ways::steps(q));
+    Marks {
+        tasks: array::from_fn(|t| w.has(t, t)),
     }
-    r
 }

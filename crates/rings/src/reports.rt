@@ -20,9 +20,8 @@ pub fn stuck(q: Queue, area: &mut [u8]) -> Reply
     ensures value { result ≡ report_reply (stuck_list (entries_in q)) (length area.old) }
     ensures area_after { area.new ≡ report_written (stuck_list (entries_in q)) area.old }
 {
-    let on = crate::stuck(q);
-    let l = stuck_list(q, on);
-    written(l, area)
+    let on = crate::stuck(&q);
+    written(&stuck_list(&q, &on), area)
 }
 
 // Every entry, name by name, and whether it owns.
@@ -31,6 +30,5 @@ pub fn queues(q: Queue, area: &mut [u8]) -> Reply
     ensures value { result ≡ report_reply (queues_list (entries_in q)) (length area.old) }
     ensures area_after { area.new ≡ report_written (queues_list (entries_in q)) area.old }
 {
-    let l = queues_list(q);
-    written(l, area)
+    written(&queues_list(&q), area)
 }

@@ -1,5 +1,5 @@
 // Who stands in which queue: name by name in the order of first entries, the entries for it in the order of request.
-ghost use Rattle.std.specs.Prelude.{◌≡◌, ◌+◌, ◌*◌, ◌≤◌, length, take};
+ghost use Rattle.std.specs.Prelude.{◌≡◌, ◌+◌, ◌*◌, ◌≤◌, length, map};
 ghost use Rattle.lists.specs.Lists.{some};
 ghost use Rattle.kinds.specs.Limits.{most_entries};
 ghost use Rattle.names.specs.Pointers.{pointer};
@@ -10,78 +10,52 @@ ghost use Rattle.queue.specs.Queues.{entry_of, entries_in};
 ghost use Rattle.rings.specs.Listings.{most_bytes, stored_items, with_items};
 ghost use Rattle.rings.specs.Standings.{entry_names, queue_from};
 
-use crate::listing::{Listing, empty, with_two};
+use crate::listing::Listing;
 use kinds::{NameOffset, Slot};
 use queue::Queue;
 
-// An entry has control behind the first k: none of them bars it.
-fn owns(q: Queue, k: usize, x: Slot) -> bool
-    requires { (k ≤ q.count) × (q.count ≤ most_entries) }
-    ensures { result ≡ control (take k (entries_in q)) (entry_of x) }
+// An entry has control behind these: none of them bars it.
+fn owns(before: &[Slot], x: Slot) -> bool
+    ensures { result ≡ control (map entry_of before.now) (entry_of x) }
 {
-    let mut j = 0;
-    while j < k {
-        let y = q.slots[j];
-        if queue::bars(y, x) {
-            return false;
-        }
-        j += 1;
-    }
-    true
+    before.iter().all(|y| !queue::bars(*y, x))
 }
 
-// One of the first i entries is for the name.
-fn named_before(q: Queue, i: usize, n: NameOffset) -> bool
-    requires { (i ≤ q.count) × (q.count ≤ most_entries) }
-    ensures { result ≡ some (same_name (pointer n.0)) (entry_names (take i (entries_in q))) }
+// One of these entries is for the name.
+fn one_named(entries: &[Slot], n: NameOffset) -> bool
+    ensures { result ≡ some (same_name (pointer n.0)) (entry_names (map entry_of entries.now)) }
 {
-    let mut j = 0;
-    while j < i {
-        let y = q.slots[j];
-        if n.0 == y.name.0 {
-            return true;
-        }
-        j += 1;
-    }
-    false
+    entries.iter().any(|y| y.name == n)
 }
 
-// The list, and behind it the entries for the name from place i on: where each stands, and whether it owns.
-fn with_queue(q: Queue, i: usize, n: NameOffset, l: Listing) -> Listing
-    requires i_le_count { (i ≤ q.count) × (q.count ≤ most_entries) }
-    requires n_bound { l.count + 2 * length (queue_from q i n) ≤ most_bytes }
-    requires n_bound_2 { l.items + length (queue_from q i n) ≤ most_entries }
-    ensures { result ≡ with_items queue_item l (queue_from q i n) }
+// The entries for the name from place i on go into the list: where each stands, and whether it owns.
+fn push_queue(l: &mut Listing, q: &Queue, i: usize, n: NameOffset)
+    requires count_le_most_entries { q.now.count ≤ most_entries }
+    requires n_bound { l.old.count + 2 * length (queue_from q.now i n) ≤ most_bytes }
+    requires n_bound_2 { l.old.items + length (queue_from q.now i n) ≤ most_entries }
+    ensures { l.new ≡ with_items queue_item l.old (queue_from q.now i n) }
 {
-    let count = q.count;
-    let mut r = l;
-    let mut j = i;
-    while j < count {
-        let x = q.slots[j];
-        if x.name.0 == n.0 {
-            let owner = owns(q, j, x);
-            r = with_two(r, j as u8, owner as u8);
+    let slots = &q.slots[..q.count];
+    // j is a place that goes into the list, the end of those before it and the index
+    for j in i..slots.len() {
+        if slots[j].name == n {
+            let owner = owns(&slots[..j], slots[j]);
+            l.push(&[j as u8, owner as u8]);
         }
-        j += 1;
     }
-    r
 }
 
 // A name's queue goes into the list where its first entry stands.
-pub(crate) fn queues_list(q: Queue) -> Listing
-    requires { q.count ≤ most_entries }
-    ensures { result ≡ stored_items (queues_list (entries_in q)) }
+pub(crate) fn queues_list(q: &Queue) -> Listing
+    requires { q.now.count ≤ most_entries }
+    ensures { result ≡ stored_items (queues_list (entries_in q.now)) }
 {
-    let n = q.count;
-    let mut l = empty();
-    let mut i = 0;
-    while i < n {
-        let x = q.slots[i];
-        let m = x.name;
-        if !named_before(q, i, m) {
-            l = with_queue(q, i, m, l);
+    let mut l = Listing::empty();
+    let slots = &q.slots[..q.count];
+    for (i, x) in slots.iter().enumerate() {
+        if !one_named(&slots[..i], x.name) {
+            push_queue(&mut l, q, i, x.name);
         }
-        i += 1;
     }
     l
 }

@@ -7,9 +7,10 @@ ghost use Rattle.rings.specs.Ways.{way_at, ways_by, joined_by, leads_on, down, w
 
 use kinds::Slot;
 use queue::{Marks, Queue};
+use std::array;
 
 // For each two task numbers, 0 to the highest, whether a way leads from the first to the second. A row has those from
-// one number.
+// one number. It is no array of arrays: the type of one does not tell a proof how long its rows are (`ways_whole`).
 #[derive(Clone, Copy)]
 pub struct Ways {
     pub of: [bool; Ways::PLACES],
@@ -17,98 +18,74 @@ pub struct Ways {
 
 impl Ways {
     pub const PLACES: usize = Marks::PLACES * Marks::PLACES;
+
+    // A way leads from a to b.
+    pub(crate) fn has(&self, a: usize, b: usize) -> bool
+        requires { (a ≤ highest_task) × (b ≤ highest_task) }
+        ensures { result ≡ way_at self.now a b }
+    {
+        self.of[a * Marks::PLACES + b]
+    }
 }
 
 // There is a step from the task of e to the task of x, which stands before e: it is known, or x bars e.
 fn stepped(known: bool, x: Slot, e: Slot) -> bool
     ensures { result ≡ (known || (not (eqb e.task.0 x.task.0) && bars (entry_of x) (entry_of e))) }
 {
-    if known {
-        return true;
-    }
-    if e.task.0 == x.task.0 {
-        return false;
-    }
-    queue::bars(x, e)
+    known || e.task != x.task && queue::bars(x, e)
 }
 
 // One step: who waits for whom. A number that no task has is passed over.
-pub(crate) fn steps(q: Queue) -> Ways
-    requires { q.count ≤ most_entries }
-    ensures { result ≡ ways_by (waits_for (entries_in q)) }
+pub(crate) fn steps(q: &Queue) -> Ways
+    requires { q.now.count ≤ most_entries }
+    ensures { result ≡ ways_by (waits_for (entries_in q.now)) }
 {
-    let n = q.count;
     let mut r = Ways {
         of: [false; Ways::PLACES],
     };
-    let mut i = 0;
-    while i < n {
-        let e = q.slots[i];
+    let slots = &q.slots[..q.count];
+    for (i, e) in slots.iter().enumerate() {
         let a = e.task.0 as usize;
-        let mut j = 0;
-        while j < i {
-            let x = q.slots[j];
+        for x in &slots[..i] {
             let b = x.task.0 as usize;
-            j += 1;
-            if (a < Marks::PLACES) & (b < Marks::PLACES) {
+            if a < Marks::PLACES && b < Marks::PLACES {
                 let at = a * Marks::PLACES + b;
-                let known = r.of[at];
-                let so = stepped(known, x, e);
-                r.of[at] = so;
+                r.of[at] = stepped(r.of[at], *x, *e);
             }
         }
-        i += 1;
     }
     r
 }
 
 // A way leads on from k.
-fn leads_on(m: Ways, k: usize) -> bool
+fn leads_on(m: &Ways, k: usize) -> bool
     requires { k ≤ highest_task }
-    ensures { result ≡ leads_on m k }
+    ensures { result ≡ leads_on m.now k }
 {
     let row = k * Marks::PLACES;
-    let mut n = Marks::PLACES;
-    while 0 < n {
-        n -= 1;
-        if m.of[row + n] {
-            return true;
-        }
-    }
-    false
+    m.of[row..row + Marks::PLACES].iter().any(|way| *way)
 }
 
 // By way of k too. A task that waits for nobody adds no way, and most do not wait.
-fn joined(m: Ways, k: usize) -> Ways
+fn join(m: &mut Ways, k: usize)
     requires { k ≤ highest_task }
-    ensures { result ≡ ways_by (joined_by m k) }
+    ensures { m.new ≡ ways_by (joined_by m.old k) }
 {
     if !leads_on(m, k) {
-        return m;
+        return;
     }
-    let mut r = m;
-    let mut n = 0;
-    while n < Ways::PLACES {
-        let row = n / Marks::PLACES * Marks::PLACES;
-        let column = n % Marks::PLACES;
-        let straight = m.of[n];
-        let first = m.of[row + k];
-        let second = m.of[k * Marks::PLACES + column];
-        r.of[n] = straight | (first & second);
-        n += 1;
-    }
-    r
+    m.of = array::from_fn(|n| {
+        let (a, b) = (n / Marks::PLACES, n % Marks::PLACES);
+        m.has(a, b) | (m.has(a, k) & m.has(k, b))
+    });
 }
 
 // By way of anybody.
-pub(crate) fn closed(m: Ways) -> Ways
+pub(crate) fn closed(mut m: Ways) -> Ways
     ensures { result ≡ ways_by (leads_by (way_at m) (down wide)) }
 {
-    let mut r = m;
-    let mut k = 0;
-    while k < Marks::PLACES {
-        r = joined(r, k);
-        k += 1;
+    for k in 0..Marks::PLACES {
+        join(&mut m, k);
     }
-    r
+    m
 }

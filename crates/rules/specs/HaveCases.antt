@@ -1,7 +1,7 @@
 -- HAVE GOES NAME BY NAME, document 02 §3, worked by hand: what the caller has an entry for is skipped and stays as it
 -- is, the rest is queued in list order, and 105 counts the rest alone.
 use Rattle.std.specs.Prelude.{ℕ, List, [], ◌∷◌, ◌++◌, pos, replicate}
-use Rattle.kinds.specs.declared.tasks.MaybeEcb.TheVariants.{NoEcb}
+use Rattle.std.specs.Prelude.{None as NoEcb}
 use Rattle.kinds.specs.declared.tasks.Condition.TheVariants.{Ready, ResourceWait}
 use Rattle.kinds.specs.declared.requests.Ret.TheVariants.{None, Use, Have, Chng}
 use Rattle.kinds.specs.declared.requests.DeqRet.TheVariants.{None as DeqNone}

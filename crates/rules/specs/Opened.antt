@@ -1,7 +1,7 @@
 -- EVERY DEFINITION OPEN, under one name: a proof that says `unfolding rules-open` computes with all of document 01 and
 -- of what has landed of document 02.
 use Rattle.lists.specs.Pick.{pick}
-use Rattle.kinds.specs.Ranges.{between, dpmod_good}
+use Rattle.kinds.specs.Ranges.{dpmod_good}
 use Rattle.rules.specs.Names.{legal, is_system, lawful, names_good, asks_system}
 use Rattle.rules.specs.Control.{granted, available, control}
 use Rattle.rules.specs.Rings.{bars, waits_for, leads_by, stuck}
@@ -42,7 +42,7 @@ use Rattle.rules.specs.Reports.{stuck_tasks, queues_of, stuck_list, queues_list,
 use Rattle.rules.specs.Reading.{climbs, ends_with}
 
 unfoldable pub rules_open : Unit {0}
-unfolding pick between dpmod_good legal is_system lawful names_good asks_system granted available control bars waits_for
+unfolding pick dpmod_good legal is_system lawful names_good asks_system granted available control bars waits_for
     leads_by stuck over_step place used mother chain below is_subtask_of wait_at ecbs_good word_of one_post_fewer unwaited
     bits_left woken signalled
     end_at area_stays waiter_stays left_by detached ended failing admitted gate_of open_gate through settled begun_with

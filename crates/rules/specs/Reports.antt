@@ -4,8 +4,8 @@ use Rattle.lists.specs.Lists.{keep, numbers, gathered}
 use Rattle.kinds.specs.Limits.{highest_task}
 use Rattle.kinds.specs.Replies.Besides.{TheCount}
 use Rattle.kinds.specs.declared.replies.Refusal.TheVariants.{ShortArea}
-use Rattle.kinds.specs.declared.replies.Gate.{Gate}
-use Rattle.kinds.specs.declared.replies.Gate.TheVariants.{Open, Shut}
+use Rattle.std.specs.Prelude.{Ok, Err}
+use Rattle.kinds.specs.Replies.{Gate}
 use Rattle.rules.specs.Tests.{Check, refuse, first_of}
 use Rattle.rules.specs.Names.{Resource, same_name, firsts}
 use Rattle.rules.specs.Control.{Entry, of_task, control}
@@ -108,8 +108,8 @@ report_gate s r space = gate_by (first_of (report_tests s r space))
 
 -- "No table changes": the number of items besides, the items at the front of the area and no other byte
 abbrev pub reported : Gate → Step → ItemList → List ℕ → Served Step
-reported (Shut why) s r area = untouched area (refused why s)
-reported Open s r area = record { outcome = done_with (TheCount r.items) s; codes = written_on r.bytes area }
+reported (Err why) s r area = untouched area (refused why s)
+reported (Ok _) s r area = record { outcome = done_with (TheCount r.items) s; codes = written_on r.bytes area }
 
 abbrev pub report_of : (List Entry → ItemList) → Step → List ℕ → Served Step
 report_of list s area = reported (report_gate s (list s.queue) (length area)) s (list s.queue) area

@@ -1,7 +1,7 @@
 -- THE REPORTS of document 02 §1, worked by hand: rings of two and of three, rings that share a task, tasks behind a
 -- ring, and what the two lists say of them.
 use Rattle.std.specs.Prelude.{ℕ, ◌+◌, true, false, List, [], ◌∷◌, ◌++◌, pos}
-use Rattle.kinds.specs.declared.tasks.MaybeEcb.TheVariants.{NoEcb}
+use Rattle.std.specs.Prelude.{None as NoEcb}
 use Rattle.kinds.specs.declared.requests.Ret.TheVariants.{None}
 use Rattle.rules.specs.Names.{Resource, Ask}
 use Rattle.rules.specs.Fresh.{fresh_of}

@@ -1,7 +1,7 @@
 -- SYSTEM NAMES, document 02 §2, worked by hand: ENQ keeps off them whatever the RET kind, what only looks like one is
 -- free, DEQ is as it was, and no sound tables hold one.
 use Rattle.std.specs.Prelude.{ℕ, zero, suc, ◌+◌, List, [], ◌∷◌, ◌++◌, map, pos, length, drop, replicate}
-use Rattle.kinds.specs.declared.tasks.MaybeEcb.TheVariants.{NoEcb}
+use Rattle.std.specs.Prelude.{None as NoEcb}
 use Rattle.kinds.specs.declared.tasks.Condition.TheVariants.{Ready, ResourceWait, Ended}
 use Rattle.kinds.specs.declared.requests.Ret.TheVariants.{None, Test, Use, Have, Chng}
 use Rattle.kinds.specs.declared.requests.DeqRet.TheVariants.{None as DeqNone, Have as DeqHave}

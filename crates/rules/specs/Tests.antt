@@ -1,25 +1,20 @@
 -- "WHAT COMES BACK WHEN IT IS NO": the tests of a request as the paper has them, a list in its order, of which the
 -- first that holds decides.
-use Rattle.std.specs.Prelude.{ℕ, ◌≡◌, Bool, true, false, List, [], ◌∷◌, ◌++◌, map, eqb}
+use Rattle.std.specs.Prelude.{ℕ, ◌≡◌, Bool, true, false, List, [], ◌∷◌, ◌++◌, map, eqb, Ok, Err}
 use Rattle.lists.specs.Pick.{pick}
-use Rattle.kinds.specs.Replies.{refusal_number, fault_number}
+use Rattle.kinds.specs.Replies.{refusal_number, fault_number, Verdict}
 use Rattle.kinds.specs.declared.replies.Refusal.{Refusal}
 use Rattle.kinds.specs.declared.replies.Fault.{Fault}
-use Rattle.kinds.specs.declared.replies.Verdict.{Verdict}
-use Rattle.kinds.specs.declared.replies.Verdict.TheVariants.{Go, Refuse, Fail}
+pub use Rattle.kinds.specs.declared.replies.No.{No}
+use Rattle.kinds.specs.declared.replies.No.TheVariants.{Refuse, Fail}
 
--- a no: a refusal or a program error
-pub data No : Type 0 where
-  refusal : Refusal → No
-  fault : Fault → No
-
+-- the number of a no: a refusal's or a program error's
 abbrev pub number_of_no : No → ℕ
-number_of_no (refusal why) = refusal_number why
-number_of_no (fault what) = fault_number what
+number_of_no (Refuse why) = refusal_number why
+number_of_no (Fail what) = fault_number what
 
 abbrev pub saying : No → Verdict
-saying (refusal why) = Refuse why
-saying (fault what) = Fail what
+saying = Err
 
 -- a test: the number that it gives, and when
 pub record Check : Type 0 where
@@ -27,14 +22,14 @@ pub record Check : Type 0 where
   pub when : Bool
 
 abbrev pub refuse : Refusal → Bool → Check
-refuse why b = record { says = refusal why; when = b }
+refuse why b = record { says = Refuse why; when = b }
 
 abbrev pub fail : Fault → Bool → Check
-fail what b = record { says = fault what; when = b }
+fail what b = record { says = Fail what; when = b }
 
 -- "Tested in this order": the first that holds decides
 abbrev pub first_of : List Check → Verdict
-first_of [] = Go
+first_of [] = Ok tt
 first_of (t ∷ ts) = pick t.when (saying t.says) (first_of ts)
 
 -- no test holds

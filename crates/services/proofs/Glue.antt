@@ -1,4 +1,5 @@
 -- The one path of every request: sound tables, the gate, the service's body, its verdict.
+use Rattle.std.specs.Prelude.{Option, None, Some}
 use mathlib.Core.Path.{◌≡◌, refl, sym, ap, ap₂, subst, ◌∙◌}
 use mathlib.Core.Bool.{Bool, true, false, not, ◌&&◌}
 use mathlib.Core.List.{List, [], ◌∷◌}
@@ -23,10 +24,9 @@ use Rattle.kinds.specs.declared.replies.Refusal.{Refusal}
 use Rattle.kinds.specs.declared.replies.Refusal.TheVariants.{Unsound, OutOfRange, SystemName, ShortArea, NoEntryFree}
 use Rattle.kinds.specs.declared.replies.Fault.{Fault}
 use Rattle.kinds.specs.declared.replies.Fault.TheVariants.{DuplicateEnq, DeqWithoutEntry}
-use Rattle.kinds.specs.declared.replies.Gate.{Gate}
-use Rattle.kinds.specs.declared.replies.Gate.TheVariants.{Open, Shut}
-use Rattle.kinds.specs.declared.replies.Verdict.{Verdict}
-use Rattle.kinds.specs.declared.replies.Verdict.TheVariants.{Go, Refuse, Fail}
+use Rattle.std.specs.Prelude.{Ok, Err}
+use Rattle.kinds.specs.Replies.{Verdict, Gate}
+use Rattle.kinds.specs.declared.replies.No.TheVariants.{Refuse, Fail}
 use Rattle.rules.specs.Tests.{refuse, fail, first_of}
 use Rattle.rules.specs.Names.{Names, names_good, asks_system}
 use Rattle.rules.specs.Events.{Ecbs}
@@ -59,8 +59,6 @@ use Rattle.services.specs.Serve.{served_of, caller_in, gate_for, gated, named_by
 use Rattle.services.specs.Serve.{Ends, settled_as, served_in, Settles}
 use Rattle.services.specs.declared.Tables.{Tables}
 use Rattle.services.specs.declared.Answer.{Answer}
-use Rattle.services.specs.declared.Caller.{Caller}
-use Rattle.services.specs.declared.Caller.TheVariants.{Nobody, Named}
 use Rattle.services.proofs.Names.{sound_tables_lem}
 
 -- a refusal leaves the tables as they are
@@ -70,11 +68,11 @@ refused_kept t why h = ap (refused why) (sym (sound_tables_lem t h))
 
 -- THE GATE's result g
 
-shut_open : {A : Type 0} (why : Refusal) → Shut why ≡ Open → A
+shut_open : {A : Type 0} (why : Refusal) → ◌≡◌ {A = Gate} (Err why) (Ok tt) → A
 shut_open why e = absurd (let z : ◌≡◌ {A = ℕ} 0 1 = cc in omega arith)
 
 module _ (t : Tables) (k : Step → Gate) where
-  pub gate_unsound : soundb t ≡ false → Shut Unsound ≡ gated t k
+  pub gate_unsound : soundb t ≡ false → Err Unsound ≡ gated t k
   unfolding gated pick
   gate_unsound h = rw h
 
@@ -82,16 +80,16 @@ module _ (t : Tables) (k : Step → Gate) where
   unfolding gated pick
   gate_is g h e = rw h e
 
-  gate_cases : (b : Bool) → soundb t ≡ b → gated t k ≡ pick b (k (step_of t)) (Shut Unsound)
+  gate_cases : (b : Bool) → soundb t ≡ b → gated t k ≡ pick b (k (step_of t)) (Err Unsound)
   unfolding gated
   gate_cases b e = rw e
 
-  open_sound : (b : Bool) → soundb t ≡ b → gated t k ≡ Open → soundb t ≡ true
+  open_sound : (b : Bool) → soundb t ≡ b → gated t k ≡ Ok tt → soundb t ≡ true
   unfolding pick
   open_sound true e h = e
   open_sound false e h = shut_open Unsound (sym (gate_cases false e) ∙ h)
 
-  pub gate_opens : (g : Gate) → g ≡ gated t k → g ≡ Open → (soundb t ≡ true) × (k (step_of t) ≡ Open)
+  pub gate_opens : (g : Gate) → g ≡ gated t k → g ≡ Ok tt → (soundb t ≡ true) × (k (step_of t) ≡ Ok tt)
   unfolding pick
   gate_opens g e h =
       let b = open_sound (soundb t) refl (sym e ∙ h) in (b, sym (gate_cases true b) ∙ sym e ∙ h)
@@ -123,7 +121,7 @@ gate_named s Dispatch = refl
 -- THE GATE OF THE NAMES
 
 -- one that is open
-names_open : (q : Request) (ns : Names) → named_by q ns ≡ Open → NamesTested q ns
+names_open : (q : Request) (ns : Names) → named_by q ns ≡ Ok tt → NamesTested q ns
 unfolding pick
 names_open (Attach c lpmod dpmod ecb) ns h = tt
 names_open (Detach c task) ns h = tt
@@ -132,14 +130,14 @@ names_open (Abend c code step) ns h = tt
 names_open (Enq c ret) ns h = one (enq_good ret ns) (asks_system ns) refl refl h
   where
     one : (a b : Bool) → enq_good ret ns ≡ a → asks_system ns ≡ b
-        → gate_by (pick (not a) (Refuse OutOfRange) (pick b (Refuse SystemName) Go)) ≡ Open
+        → gate_by (pick (not a) (Err (Refuse OutOfRange)) (pick b (Err (Refuse SystemName)) (Ok tt))) ≡ Ok tt
         → (enq_good ret ns ≡ true) × (asks_system ns ≡ false)
     one true false x y e = (x, y)
     one true true x y e = shut_open SystemName e
     one false b x y e = shut_open OutOfRange e
 names_open (Deq c ret) ns h = one (names_good ns) refl h
   where
-    one : (a : Bool) → names_good ns ≡ a → gate_by (pick (not a) (Refuse OutOfRange) Go) ≡ Open → names_good ns ≡ true
+    one : (a : Bool) → names_good ns ≡ a → gate_by (pick (not a) (Err (Refuse OutOfRange)) (Ok tt)) ≡ Ok tt → names_good ns ≡ true
     one true x e = x
     one false x e = shut_open OutOfRange e
 names_open (Wait c n) ns h = tt
@@ -150,8 +148,8 @@ names_open (Freemain c address bytes subpool) ns h = tt
 names_open Dispatch ns h = tt
 
 -- one that is shut says what the first of the request's tests says
-names_shut : (s : Step) (q : Request) (ns : Names) (es : Ecbs) (space : ℕ) (why : Refusal) → named_by q ns ≡ Shut why
-    → first_of (own_tests s q ns es space) ≡ Refuse why
+names_shut : (s : Step) (q : Request) (ns : Names) (es : Ecbs) (space : ℕ) (why : Refusal) → named_by q ns ≡ Err why
+    → first_of (own_tests s q ns es space) ≡ Err (Refuse why)
 unfolding pick
 names_shut s (Attach c lpmod dpmod ecb) ns es space why h = shut_open why (sym h)
 names_shut s (Detach c task) ns es space why h = shut_open why (sym h)
@@ -165,11 +163,11 @@ names_shut s (Enq c ret) ns es space why h = one (enq_good ret ns) (asks_system 
         ∷ fail DuplicateEnq (duplicated ret s.queue c.0 ns)
         ∷ refuse NoEntryFree (too_few_free ret s.queue c.0 ns) ∷ [])
 
-    one : (a b : Bool) → gate_by (pick (not a) (Refuse OutOfRange) (pick b (Refuse SystemName) Go)) ≡ Shut why
-        → pick (not a) (Refuse OutOfRange) (pick b (Refuse SystemName) rest) ≡ Refuse why
+    one : (a b : Bool) → gate_by (pick (not a) (Err (Refuse OutOfRange)) (pick b (Err (Refuse SystemName)) (Ok tt))) ≡ Err why
+        → pick (not a) (Err (Refuse OutOfRange)) (pick b (Err (Refuse SystemName)) rest) ≡ Err (Refuse why)
     one true false e = shut_open why (sym e)
-    one true true e = let z : SystemName ≡ why = cc in ap Refuse z
-    one false b e = let z : OutOfRange ≡ why = cc in ap Refuse z
+    one true true e = let z : SystemName ≡ why = cc in ap (λ (w : Refusal). Err (Refuse w)) z
+    one false b e = let z : OutOfRange ≡ why = cc in ap (λ (w : Refusal). Err (Refuse w)) z
 names_shut s (Deq c ret) ns es space why h = one (names_good ns) h
   where
     rest : Verdict
@@ -177,10 +175,10 @@ names_shut s (Deq c ret) ns es space why h = one (names_good ns) h
         first_of (refuse ShortArea (deq_codes_due ret && too_short space ns)
         ∷ fail DeqWithoutEntry (unentered ret s.queue c.0 ns) ∷ [])
 
-    one : (a : Bool) → gate_by (pick (not a) (Refuse OutOfRange) Go) ≡ Shut why
-        → pick (not a) (Refuse OutOfRange) rest ≡ Refuse why
+    one : (a : Bool) → gate_by (pick (not a) (Err (Refuse OutOfRange)) (Ok tt)) ≡ Err why
+        → pick (not a) (Err (Refuse OutOfRange)) rest ≡ Err (Refuse why)
     one true e = shut_open why (sym e)
-    one false e = let z : OutOfRange ≡ why = cc in ap Refuse z
+    one false e = let z : OutOfRange ≡ why = cc in ap (λ (w : Refusal). Err (Refuse w)) z
 names_shut s (Wait c n) ns es space why h = shut_open why (sym h)
 names_shut s (Post c e code) ns es space why h = shut_open why (sym h)
 names_shut s (Clear c e) ns es space why h = shut_open why (sym h)
@@ -190,23 +188,23 @@ names_shut s Dispatch ns es space why h = shut_open why (sym h)
 
 -- BOTH GATES
 
-gates_open : (g k : Gate) → both_gates g k ≡ Open → (g ≡ Open) × (k ≡ Open)
-gates_open Open k h = (refl, h)
-gates_open (Shut why) k h = shut_open why h
+gates_open : (g k : Gate) → both_gates g k ≡ Ok tt → (g ≡ Ok tt) × (k ≡ Ok tt)
+gates_open (Ok _) k h = (refl, h)
+gates_open (Err why) k h = shut_open why h
 
 -- how they come out
-module _ (t : Tables) (q : Request) (ns : Names) (w : Caller) (g : Gate) (n : w ≡ caller_in q)
+module _ (t : Tables) (q : Request) (ns : Names) (w : Option TaskNumber) (g : Gate) (n : w ≡ caller_in q)
     (e : g ≡ gated t (gate_for w)) where
   entry_is : g ≡ gated t (gate_for (caller_in q))
-  entry_is = e ∙ ap (λ (x : Caller). gated t (gate_for x)) n
+  entry_is = e ∙ ap (λ (x : Option TaskNumber). gated t (gate_for x)) n
 
-  pub entry_refused : (why : Refusal) → g ≡ Shut why → Shut why ≡ entry_of t q ns
+  pub entry_refused : (why : Refusal) → g ≡ Err why → Err why ≡ entry_of t q ns
   entry_refused why h = ap (λ (x : Gate). both_gates x (named_by q ns)) (sym h ∙ entry_is)
 
-  pub entry_named : (k : Gate) → g ≡ Open → k ≡ named_by q ns → k ≡ entry_of t q ns
+  pub entry_named : (k : Gate) → g ≡ Ok tt → k ≡ named_by q ns → k ≡ entry_of t q ns
   entry_named k h m = m ∙ ap (λ (x : Gate). both_gates x (named_by q ns)) (sym h ∙ entry_is)
 
-pub entry_admits : (t : Tables) (q : Request) (ns : Names) (g : Gate) → g ≡ entry_of t q ns → g ≡ Open → Admits t q ns
+pub entry_admits : (t : Tables) (q : Request) (ns : Names) (g : Gate) → g ≡ entry_of t q ns → g ≡ Ok tt → Admits t q ns
 entry_admits t q ns g e h =
     let b = gates_open (gated t (gate_for (caller_in q))) (named_by q ns) (sym e ∙ h) in
     let o = gate_opens t (gate_for (caller_in q)) (gated t (gate_for (caller_in q))) refl b.0 in
@@ -220,27 +218,27 @@ entry_admits t q ns g e h =
 
 -- refuses and writes nothing, where the rules say so of it
 module _ (t : Tables) (area : List ℕ) (k : Step → Gate) (f : Step → List ℕ → Served Step) where
-  shut_is : (s : Outcome Tables) (why : Refusal) (b : Bool) → soundb t ≡ b → gated t k ≡ Shut why
+  shut_is : (s : Outcome Tables) (why : Refusal) (b : Bool) → soundb t ≡ b → gated t k ≡ Err why
       → s ≡ refused why t
-      → (k (step_of t) ≡ Shut why → f (step_of t) area ≡ untouched area (refused why (step_of t)))
+      → (k (step_of t) ≡ Err why → f (step_of t) area ≡ untouched area (refused why (step_of t)))
       → untouched area s ≡ answered_with t area f
   unfolding answered_with pick
   shut_is s why true e h a l =
-      let g : k (step_of t) ≡ Shut why = sym (gate_cases t k true e) ∙ h in
+      let g : k (step_of t) ≡ Err why = sym (gate_cases t k true e) ∙ h in
       rw e (ap (untouched area) (a ∙ refused_kept t why e) ∙ ap served_by (sym (l g)))
   shut_is s why false e h a l =
       let g : why ≡ Unsound = cc (gate_cases t k false e) in
       rw e (ap (untouched area) (a ∙ ap (λ (w : Refusal). refused w t) g))
 
-  pub served_shut : (s : Outcome Tables) (g : Gate) (why : Refusal) → g ≡ gated t k → g ≡ Shut why
+  pub served_shut : (s : Outcome Tables) (g : Gate) (why : Refusal) → g ≡ gated t k → g ≡ Err why
       → s ≡ refused why t
-      → (k (step_of t) ≡ Shut why → f (step_of t) area ≡ untouched area (refused why (step_of t)))
+      → (k (step_of t) ≡ Err why → f (step_of t) area ≡ untouched area (refused why (step_of t)))
       → untouched area s ≡ answered_with t area f
   served_shut s g why e h a l = shut_is s why (soundb t) refl (sym e ∙ h) a l
 
 -- the rules say so of every request
 module _ (s : Step) (q : Request) (ns : Names) (es : Ecbs) (area : List ℕ) (why : Refusal) where
-  shut_sorts : (o : Served Step) → first_of (service_tests s q ns es (length area)) ≡ Refuse why
+  shut_sorts : (o : Served Step) → first_of (service_tests s q ns es (length area)) ≡ Err (Refuse why)
       → Sorts s (caller_of q) area (service_tests s q ns es (length area)) o → o ≡ untouched area (refused why s)
   shut_sorts o h (refuses w f e) =
       let g : w ≡ why = cc in
@@ -248,7 +246,7 @@ module _ (s : Step) (q : Request) (ns : Names) (es : Ecbs) (area : List ℕ) (wh
   shut_sorts o h (fails what d n g f e) = absurd (let z : ◌≡◌ {A = ℕ} 0 1 = cc in omega arith)
   shut_sorts o h (goes f n) = absurd (let z : ◌≡◌ {A = ℕ} 0 1 = cc in omega arith)
 
-  service_shut : gate_at s q ≡ Shut why → service_of s q ns es area ≡ untouched area (refused why s)
+  service_shut : gate_at s q ≡ Err why → service_of s q ns es area ≡ untouched area (refused why s)
   service_shut h =
       shut_sorts _
       ((tested s q ns es (length area)).behind
@@ -262,7 +260,7 @@ module _ (t : Tables) (q : Request) (ns : Names) (es : Ecbs) (area : List ℕ) w
   asked = record { request = q; names = ns; ecbs = es; area = area }
 
   -- a gate that is shut refuses, whatever is asked
-  serve_shut : (why : Refusal) (s : Outcome Tables) → gated t (gate_for (caller_in q)) ≡ Shut why → s ≡ refused why t
+  serve_shut : (why : Refusal) (s : Outcome Tables) → gated t (gate_for (caller_in q)) ≡ Err why → s ≡ refused why t
       → untouched area s ≡ served_of t asked
   unfolding served_of
   serve_shut why s h a =
@@ -270,12 +268,12 @@ module _ (t : Tables) (q : Request) (ns : Names) (es : Ecbs) (area : List ℕ) w
       (λ k. service_shut (step_of t) q ns es area why (sym (gate_named (step_of t) q) ∙ k))
 
   -- and so do names that are refused
-  named_shut : (why : Refusal) (s : Outcome Tables) → gated t (gate_for (caller_in q)) ≡ Open → named_by q ns ≡ Shut why
+  named_shut : (why : Refusal) (s : Outcome Tables) → gated t (gate_for (caller_in q)) ≡ Ok tt → named_by q ns ≡ Err why
       → s ≡ refused why t → untouched area s ≡ served_of t asked
   unfolding served_of answered_with
   named_shut why s h n a =
       let o = gate_opens t (gate_for (caller_in q)) _ refl h in
-      let g : gate_at (step_of t) q ≡ Open = sym (gate_named (step_of t) q) ∙ o.1 in
+      let g : gate_at (step_of t) q ≡ (Ok tt) = sym (gate_named (step_of t) q) ∙ o.1 in
       on_true (soundb t) _ _ _ o.0
       (ap (untouched area) (a ∙ refused_kept t why o.0)
       ∙ ap served_by (sym (shut_sorts (step_of t) q ns es area why _
@@ -283,14 +281,14 @@ module _ (t : Tables) (q : Request) (ns : Names) (es : Ecbs) (area : List ℕ) w
       ∙ ap₂ behind_gate g (names_shut (step_of t) q ns es (length area) why n))
       (service_sorts (step_of t) q ns es area))))
 
-  pub entry_shut : (g : Gate) (why : Refusal) (s : Outcome Tables) → g ≡ entry_of t q ns → g ≡ Shut why
+  pub entry_shut : (g : Gate) (why : Refusal) (s : Outcome Tables) → g ≡ entry_of t q ns → g ≡ Err why
       → s ≡ refused why t → untouched area s ≡ served_of t asked
   entry_shut g why s e h a = one (gated t (gate_for (caller_in q))) refl (sym e ∙ h)
     where
-      one : (k : Gate) → gated t (gate_for (caller_in q)) ≡ k → both_gates k (named_by q ns) ≡ Shut why
+      one : (k : Gate) → gated t (gate_for (caller_in q)) ≡ k → both_gates k (named_by q ns) ≡ Err why
           → untouched area s ≡ served_of t asked
-      one Open k z = named_shut why s k z a
-      one (Shut w) k z = let y : w ≡ why = cc in serve_shut why s (k ∙ ap Shut y) a
+      one (Ok _) k z = named_shut why s k z a
+      one (Err w) k z = let y : w ≡ why = cc in serve_shut why s (k ∙ ap Err y) a
 
   -- behind open ones stands what the rules say of the step
   pub serve_open : (o : Served Tables) → Admits t q ns → o ≡ served_by (service_of (step_of t) q ns es area)
@@ -315,40 +313,40 @@ module _ (t : Tables) (q : Request) (ns : Names) (es : Ecbs) (area : List ℕ) w
 module _ (t : AllTables) (c : TaskNumber) (a : Admitted t c) (v : Verdict) (o : Outcome Step) (k : Made)
     (e : told k ≡ body_of v t o) where
   -- one that fails leaves the tables to the ending of its caller
-  fails_admitted : (what : Fault) → k.verdict ≡ Fail what → Admitted k.tables c
+  fails_admitted : (what : Fault) → k.verdict ≡ Err (Fail what) → Admitted k.tables c
   unfolding told body_of
   fails_admitted what h =
-      let w : v ≡ Fail what = sym (ap (λ (x : Told). x.verdict) e) ∙ h in
+      let w : v ≡ Err (Fail what) = sym (ap (λ (x : Told). x.verdict) e) ∙ h in
       subst (λ (u : AllTables). Admitted u c)
       (sym (ap (λ (x : Told). x.outcome.tables) e ∙ ap (λ (x : Verdict). (body_of x t o).outcome.tables) w)) a
 
-  settles : (u : Verdict) → settled_as (body_of u t o) (Named c) ≡ kept_by all.tables_of (settled u (all.step_of t) c o)
+  settles : (u : Verdict) → settled_as (body_of u t o) (Some c) ≡ kept_by all.tables_of (settled u (all.step_of t) c o)
   unfolding settled_as body_of settled failing
-  settles Go = refl
-  settles (Refuse why) = ap (refused why) (sym (admits.packed_tables t (admits.admitted_packed t c a)))
-  settles (Fail what) = refl
+  settles (Ok _) = refl
+  settles (Err (Refuse why)) = ap (refused why) (sym (admits.packed_tables t (admits.admitted_packed t c a)))
+  settles (Err (Fail what)) = refl
 
   -- what the verdict comes to is what the rules say
-  settles_so : settled_as (told k) (Named c)
+  settles_so : settled_as (told k) (Some c)
       ≡ kept_by all.tables_of (through (gate_of (all.step_of t) c) (all.step_of t) (settled v (all.step_of t) c o))
   unfolding through
-  settles_so = rw a.gate (ap (λ (x : Told). settled_as x (Named c)) e ∙ settles v)
+  settles_so = rw a.gate (ap (λ (x : Told). settled_as x (Some c)) e ∙ settles v)
 
   -- so it is of a request of its caller
-  body_settles : (q : Request) → caller_in q ≡ Named c → (ns : Names) (es : Ecbs) (area left : List ℕ)
+  body_settles : (q : Request) → caller_in q ≡ Some c → (ns : Names) (es : Ecbs) (area left : List ℕ)
       → service_of (all.step_of t) q ns es area
       ≡ untouched left (through (gate_of (all.step_of t) c) (all.step_of t) (settled v (all.step_of t) c o))
       → Settles t ns es area k left q
   body_settles q n ns es area left so = record {
     says =
-        ap (λ (w : Caller). untouched left (settled_as (told k) w)) n
+        ap (λ (w : Option TaskNumber). untouched left (settled_as (told k) w)) n
         ∙ ap (untouched left) settles_so ∙ ap served_in (sym so);
     ends = λ what h. subst (Ends k.tables) (sym n) (fails_admitted what h);
   }
 
   -- and of one with codes
-  coded_settles : (q : Request) → caller_in q ≡ Named c → (ns : Names) (es : Ecbs) (area left written : List ℕ)
-      → left ≡ codes_through Open v area written
+  coded_settles : (q : Request) → caller_in q ≡ Some c → (ns : Names) (es : Ecbs) (area left written : List ℕ)
+      → left ≡ codes_through (Ok tt) v area written
       → service_of (all.step_of t) q ns es area ≡ record {
         outcome = through (gate_of (all.step_of t) c) (all.step_of t) (settled v (all.step_of t) c o);
         codes = codes_through (gate_of (all.step_of t) c) v area written;
@@ -360,7 +358,7 @@ module _ (t : AllTables) (c : TaskNumber) (a : Admitted t c) (v : Verdict) (o : 
       (through (gate_of (all.step_of t) c) (all.step_of t) (settled v (all.step_of t) c o))) l)
 
 -- what the verdict of a body comes to
-pub settles_comes : (t : AllTables) (q : Request) (ns : Names) (es : Ecbs) (area left : List ℕ) (k : Made) (w : Caller)
+pub settles_comes : (t : AllTables) (q : Request) (ns : Names) (es : Ecbs) (area left : List ℕ) (k : Made) (w : Option TaskNumber)
     (o : Outcome AllTables) → w ≡ caller_in q → Settles t ns es area k left q → o ≡ settled_as (told k) w
     → untouched left o ≡ served_in (service_of (all.step_of t) q ns es area)
 settles_comes t q ns es area left k w o n b e =
@@ -382,14 +380,14 @@ module _ (t : AllTables) (q k : Request) (e : q ≡ k) where
     behind_admits = record { sound = b.sound; gate = sym (ap (gate_at (all.step_of t)) e ∙ n) ∙ b.gate }
 
     -- with the body of its service
-    module _ (m : caller_in k ≡ Named c) (v : Verdict) (o : Outcome Step) (r : Made) (h : told r ≡ body_of v t o) where
+    module _ (m : caller_in k ≡ Some c) (v : Verdict) (o : Outcome Step) (r : Made) (h : told r ≡ body_of v t o) where
       pub plain_known : (ns : Names) (es : Ecbs) (area : List ℕ)
           → service_of (all.step_of t) k ns es area
           ≡ untouched area (through (gate_of (all.step_of t) c) (all.step_of t) (settled v (all.step_of t) c o))
           → Settles t ns es area r area q
       plain_known ns es area so = known (body_settles t c behind_admits v o r h k m ns es area area so)
 
-      pub coded_known : (ns : Names) (es : Ecbs) (area left written : List ℕ) → left ≡ codes_through Open v area written
+      pub coded_known : (ns : Names) (es : Ecbs) (area left written : List ℕ) → left ≡ codes_through (Ok tt) v area written
           → service_of (all.step_of t) k ns es area ≡ record {
             outcome = through (gate_of (all.step_of t) c) (all.step_of t) (settled v (all.step_of t) c o);
             codes = codes_through (gate_of (all.step_of t) c) v area written;
@@ -400,11 +398,11 @@ module _ (t : AllTables) (q k : Request) (e : q ≡ k) where
 -- DISPATCH changes nothing
 pub dispatch_settles : (t : AllTables) (n : TaskNumber) (k : Made) (ns : Names) (es : Ecbs) (area : List ℕ)
     → Behind t Dispatch ns → n.0 ≡ dispatched t.tasks.places
-    → k ≡ record { verdict = Go; reply = Dispatched n; tables = t } → Settles t ns es area k area Dispatch
+    → k ≡ record { verdict = Ok tt; reply = Dispatched n; tables = t } → Settles t ns es area k area Dispatch
 unfolding service_of dispatch_body through settled_as told
 dispatch_settles t n k ns es area b e h = record {
   says =
-      ap (λ (x : Made). untouched area (settled_as (told x) Nobody)) h
+      ap (λ (x : Made). untouched area (settled_as (told x) None)) h
       ∙ rw b.gate (ap (λ (m : ℕ). untouched area (done_with (TheNumber (record { 0 = m })) t)) e
       ∙ ap (λ (u : AllTables). untouched area
       (done_with (TheNumber (record { 0 = dispatched t.tasks.places })) u))
@@ -441,3 +439,5 @@ module _ (limit dispatching : ℕ) where
         leb-true limit highest_priority r.0,
         omega (arith, leb-true limit highest_priority r.0, leb-true dispatching limit r.1),
       )
+
+pub ruleset begins = (fresh_ranges, fresh_refused, fresh_starts, over_kept, begun_kept)

@@ -12,8 +12,8 @@ use Rattle.kinds.specs.Ranges.{task_good}
 use Rattle.kinds.specs.Replies.Besides.{TheCount}
 use Rattle.kinds.specs.declared.replies.Refusal.{Refusal}
 use Rattle.kinds.specs.declared.replies.Refusal.TheVariants.{Unsound, ShortArea}
-use Rattle.kinds.specs.declared.replies.Gate.{Gate}
-use Rattle.kinds.specs.declared.replies.Gate.TheVariants.{Open, Shut}
+use Rattle.std.specs.Prelude.{Ok, Err}
+use Rattle.kinds.specs.Replies.{Gate}
 use Rattle.kinds.specs.declared.replies.Reply.{Reply}
 use Rattle.kinds.specs.declared.replies.Reply.TheVariants.{Counted, Refused}
 use Rattle.rules.specs.Tests.{refuse, first_of}
@@ -57,8 +57,8 @@ gate_behind s r space g e =
 
 -- WHAT AN OPEN GATE GIVES
 
-module _ (t : Tables) (g : Gate) (e : g ≡ gated t open_gate) (h : g ≡ Open) where
-  abbrev opened : (soundb t ≡ true) × (open_gate (step_of t) ≡ Open)
+module _ (t : Tables) (g : Gate) (e : g ≡ gated t open_gate) (h : g ≡ Ok tt) where
+  abbrev opened : (soundb t ≡ true) × (open_gate (step_of t) ≡ Ok tt)
   opened = gate_opens t open_gate g e h
 
   report_running : Running (all.step_of t.all)
@@ -105,7 +105,7 @@ module _ (t : Tables) (area : List ℕ) (list : List Entry → ItemList) (same :
       (shown_apart t.names.bytes q (entries_point t.all.queue) (area_kept t h)) q (names_known q)
 
   -- an open gate
-  pub report_open : (g : Gate) → g ≡ gated t open_gate → g ≡ Open
+  pub report_open : (g : Gate) → g ≡ gated t open_gate → g ≡ Ok tt
       → (s : Outcome Tables) (b : Reply) (left : List ℕ) → s ≡ replied b t
       → b ≡ report_reply (list (entries_in t.all.queue)) (length area)
       → left ≡ report_written (list (entries_in t.all.queue)) area
@@ -119,18 +119,18 @@ module _ (t : Tables) (area : List ℕ) (list : List Entry → ItemList) (same :
       ∙ ap (λ (l : List ℕ). untouched l (replied (report_reply r (length area)) t)) w
       ∙ said_by t o.0 r area (ltb (length area) (length r.bytes))
       ∙ ap (λ (x : Gate). served_by (reported x (step_of t) r area))
-      (sym (gate_behind (step_of t) r (length area) Open o.1))
+      (sym (gate_behind (step_of t) r (length area) (Ok tt) o.1))
       ∙ ap (λ (x : ItemList). served_by (reported (report_gate (step_of t) x (length area)) (step_of t) x area))
       (sym (list_pointed o.0)))
 
   -- a gate that is shut refuses, and no byte is written
-  pub report_shut : (g : Gate) (why : Refusal) → g ≡ gated t open_gate → g ≡ Shut why → (s : Outcome Tables)
+  pub report_shut : (g : Gate) (why : Refusal) → g ≡ gated t open_gate → g ≡ Err why → (s : Outcome Tables)
       → s ≡ refused why t
       → untouched area s ≡ answered_with t area (report_of list)
   report_shut g why e h s a =
       served_shut t area open_gate (report_of list) s g why e h a
       (λ k. ap (λ (x : Gate). reported x (step_of t) (list (step_of t).queue) area)
-      (gate_behind (step_of t) (list (step_of t).queue) (length area) (Shut why) k))
+      (gate_behind (step_of t) (list (step_of t).queue) (length area) (Err why) k))
 
   -- NO TABLE CHANGES, whatever the number
 

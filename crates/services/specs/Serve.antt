@@ -1,5 +1,7 @@
 -- What one request does to tables: the one definition of its outcome, `serviceOf`, on the step that they stand for; and
 -- the words of the one path to it: whom a request names, the gate, and what the verdict makes of the service's body.
+use Rattle.kinds.specs.declared.numbers.TaskNumber.{TaskNumber}
+use Rattle.std.specs.Prelude.{Option, None, Some}
 use Rattle.std.specs.Prelude.{◌≡◌, Bool, true, false, List, ℕ}
 use Rattle.lists.specs.Pick.{pick}
 use Rattle.kinds.specs.Replies.{fault_number}
@@ -8,10 +10,9 @@ use Rattle.kinds.specs.declared.requests.Request.TheVariants.{Attach, Detach, En
 use Rattle.kinds.specs.declared.requests.Request.TheVariants.{Getmain, Freemain, Dispatch}
 use Rattle.kinds.specs.declared.replies.Refusal.TheVariants.{Unsound}
 use Rattle.kinds.specs.declared.replies.Fault.{Fault}
-use Rattle.kinds.specs.declared.replies.Gate.{Gate}
-use Rattle.kinds.specs.declared.replies.Gate.TheVariants.{Open, Shut}
-use Rattle.kinds.specs.declared.replies.Verdict.{Verdict}
-use Rattle.kinds.specs.declared.replies.Verdict.TheVariants.{Go, Refuse, Fail}
+use Rattle.std.specs.Prelude.{Ok, Err}
+use Rattle.kinds.specs.Replies.{Verdict, Gate}
+use Rattle.kinds.specs.declared.replies.No.TheVariants.{Refuse, Fail}
 use Rattle.rules.specs.Tests.{first_of}
 use Rattle.rules.specs.Steps.{Step, Outcome, Served, refused, failed, kept_by}
 use Rattle.rules.specs.Names.{Names}
@@ -30,44 +31,42 @@ use Rattle.tables.specs.declared.AllTables.{AllTables}
 use Rattle.tables.specs.declared.made.Made.{Made}
 use Rattle.services.specs.Kept.{step_of, soundb, answered_with}
 use Rattle.services.specs.declared.Tables.{Tables}
-use Rattle.services.specs.declared.Caller.{Caller}
-use Rattle.services.specs.declared.Caller.TheVariants.{Nobody, Named}
 
 unfoldable pub served_of : Tables → Asked → Served Tables
 served_of t a = answered_with t a.area (λ s area. service_of s a.request a.names a.ecbs area)
 
 -- whom a request names
-abbrev pub caller_in : Request → Caller
-caller_in q = by_caller q Named Nobody
+abbrev pub caller_in : Request → Option TaskNumber
+caller_in q = by_caller q Some None
 
 -- the gate of a caller, and that of DISPATCH and of the reports, which name none
-abbrev pub gate_for : Caller → Step → Gate
-gate_for Nobody s = open_gate s
-gate_for (Named c) s = gate_of s c
+abbrev pub gate_for : Option TaskNumber → Step → Gate
+gate_for None s = open_gate s
+gate_for (Some c) s = gate_of s c
 
 -- with 100 before it
 unfoldable pub gated : Tables → (Step → Gate) → Gate
-gated t g = pick (soundb t) (g (step_of t)) (Shut Unsound)
+gated t g = pick (soundb t) (g (step_of t)) (Err Unsound)
 
 -- what the names beside a request say of it: 101 and 110 of ENQ, 101 of DEQ; no other request has names
 abbrev pub named_by : Request → Names → Gate
-named_by (Attach c lpmod dpmod ecb) ns = Open
-named_by (Detach c task) ns = Open
-named_by (End c code) ns = Open
-named_by (Abend c code step) ns = Open
+named_by (Attach c lpmod dpmod ecb) ns = Ok tt
+named_by (Detach c task) ns = Ok tt
+named_by (End c code) ns = Ok tt
+named_by (Abend c code step) ns = Ok tt
 named_by (Enq c ret) ns = gate_by (first_of (enq_named ret ns))
 named_by (Deq c ret) ns = gate_by (first_of (deq_named ns))
-named_by (Wait c n) ns = Open
-named_by (Post c e code) ns = Open
-named_by (Clear c e) ns = Open
-named_by (Getmain c bytes subpool conditional) ns = Open
-named_by (Freemain c address bytes subpool) ns = Open
-named_by Dispatch ns = Open
+named_by (Wait c n) ns = Ok tt
+named_by (Post c e code) ns = Ok tt
+named_by (Clear c e) ns = Ok tt
+named_by (Getmain c bytes subpool conditional) ns = Ok tt
+named_by (Freemain c address bytes subpool) ns = Ok tt
+named_by Dispatch ns = Ok tt
 
 -- one gate behind another
 abbrev pub both_gates : Gate → Gate → Gate
-both_gates Open g = g
-both_gates (Shut why) g = Shut why
+both_gates (Ok _) g = g
+both_gates (Err why) g = Err why
 
 -- the caller's gate, and behind it that of the names
 abbrev pub entry_of : Tables → Request → Names → Gate
@@ -91,37 +90,37 @@ asks_names Dispatch = false
 -- what both gates give to the service behind them
 pub record Admits (t : Tables) (q : Request) (ns : Names) : Type 0 where
   pub sound : soundb t ≡ true
-  pub gate : gate_at (step_of t) q ≡ Open
+  pub gate : gate_at (step_of t) q ≡ Ok tt
   pub names : NamesTested q ns
 
 -- the same where names are pointers, as the body of the service gets it
 pub record Behind (t : AllTables) (q : Request) (ns : Names) : Type 0 where
   pub sound : sound_tables t ≡ true
-  pub gate : gate_at (all.step_of t) q ≡ Open
+  pub gate : gate_at (all.step_of t) q ≡ Ok tt
   pub names : NamesTested q ns
 
 -- what a program error makes of the tables: its caller ends
-abbrev pub ended_by : Fault → AllTables → Caller → AllTables
-ended_by what t Nobody = t
-ended_by what t (Named c) = all.tables_of (ended (all.step_of t) c.0 (fault_number what))
+abbrev pub ended_by : Fault → AllTables → Option TaskNumber → AllTables
+ended_by what t None = t
+ended_by what t (Some c) = all.tables_of (ended (all.step_of t) c.0 (fault_number what))
 
 -- there is a caller, and it can be ended
-abbrev pub Ends : AllTables → Caller → Type 0
-Ends t Nobody = ⊥
-Ends t (Named c) = Admitted t c
+abbrev pub Ends : AllTables → Option TaskNumber → Type 0
+Ends t None = ⊥
+Ends t (Some c) = Admitted t c
 
 -- what the verdict makes of what a body tells: a refusal leaves the tables, a program error ends the caller
-abbrev settled_by : Verdict → Outcome AllTables → Caller → Outcome AllTables
-settled_by Go o w = o
-settled_by (Refuse why) o w = refused why o.tables
-settled_by (Fail what) o w = failed what (ended_by what o.tables w)
+abbrev settled_by : Verdict → Outcome AllTables → Option TaskNumber → Outcome AllTables
+settled_by (Ok _) o w = o
+settled_by (Err (Refuse why)) o w = refused why o.tables
+settled_by (Err (Fail what)) o w = failed what (ended_by what o.tables w)
 
-unfoldable pub settled_as : Told → Caller → Outcome AllTables
+unfoldable pub settled_as : Told → Option TaskNumber → Outcome AllTables
 settled_as k w = settled_by k.verdict k.outcome w
 
 -- a body that has failed was called, and leaves its caller to be ended
-abbrev pub EndsIfFailed : Made → Caller → Type 0
-EndsIfFailed k w = (what : Fault) → k.verdict ≡ Fail what → Ends k.tables w
+abbrev pub EndsIfFailed : Made → Option TaskNumber → Type 0
+EndsIfFailed k w = (what : Fault) → k.verdict ≡ Err (Fail what) → Ends k.tables w
 
 -- kept in all tables
 abbrev pub served_in : Served Step → Served AllTables

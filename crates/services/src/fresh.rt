@@ -6,33 +6,34 @@ ghost use Rattle.tables.specs.Tables.{tables_of as all_of};
 ghost use Rattle.services.specs.Kept.{tables_of, said};
 
 use crate::{Answer, Tables, answering};
-use kinds::{Condition, MaybeEcb, Refusal, Reply, Task, TaskNumber};
+use kinds::{Condition, Refusal, Reply, Task, TaskNumber};
 use namearea::NameArea;
 use tables::AllTables;
 
 // 101: limit and dispatching priority are 0 to 255, dispatching not above limit.
+#[tactic(auto, unfolding(rules::specs::Fresh::fresh_good))]
 fn fresh_good(limit: u16, dispatching: u16) -> bool
     ensures { result ≡ fresh_good limit dispatching }
 {
-    let a = Task::priority_good(limit);
-    let b = dispatching <= limit;
-    a & b
+    Task::priority_good(limit) && dispatching <= limit
 }
 
 // A step that runs, with its first task.
+#[tactic(auto, unfolding(rules::specs::Fresh::begun_with, rules::specs::Steps::over_step))]
 fn begun(first: Task) -> AllTables
     ensures { result ≡ all_of (begun_with first) }
 {
-    let mut t = tables::over_with(0);
-    let f = t.tasks;
-    let g = tasks::with_place(f, TaskNumber(TaskNumber::LOWEST), first);
-    t.over = false;
-    t.tasks = g;
-    t
+    let t = tables::over_with(0);
+    AllTables {
+        over: false,
+        tasks: tasks::with_place(t.tasks, TaskNumber(TaskNumber::LOWEST), first),
+        ..t
+    }
 }
 
 impl Tables {
     // A fresh step, or 101 and a step already over with code 0.
+    #[tactic(auto, using(crate::proofs::Glue::begins))]
     pub fn fresh(limit: u16, dispatching: u16) -> Answer
         ensures { said result ≡ kept_by tables_of (fresh_of limit dispatching) }
     {
@@ -48,7 +49,7 @@ impl Tables {
             mother: TaskNumber(0),
             limit: limit as u8,
             dispatching: dispatching as u8,
-            ecb: MaybeEcb::NoEcb,
+            ecb: None,
         };
         let t = Tables {
             all: begun(first),

@@ -26,7 +26,7 @@ ghost use Rattle.tables.specs.Bodies.{replied, told};
 ghost use Rattle.services.specs.Kept.{in_tables, said, soundb};
 ghost use Rattle.services.specs.Serve.{gated, gate_for, Ends, ended_by, settled_as, EndsIfFailed};
 
-use kinds::{Fault, Gate, Refusal, Reply, TaskNumber, Verdict};
+use kinds::{Fault, No, Refusal, Reply, TaskNumber};
 use namearea::NameArea;
 use tables::AllTables;
 use tables::made::Made;
@@ -51,13 +51,6 @@ struct Upshot {
     reply: Reply,
 }
 
-// Whom a request names: the calling task, or nobody, as DISPATCH and the reports.
-#[derive(Clone, Copy)]
-pub(crate) enum Caller {
-    Nobody,
-    Named(TaskNumber),
-}
-
 impl Tables {
     // No rule of sound tables is broken.
     pub fn sound(self) -> bool
@@ -78,42 +71,39 @@ fn is_sound(t: AllTables, names: &[u8]) -> bool
     }
     let at = queue::offsets::offsets_of(t.queue);
     let n = t.queue.count;
-    if !namearea::scan(&at.of, n, names) {
-        return false;
-    }
-    namearea::lawful::names_lawful(&at.of, n, names)
+    namearea::scan(&at.of, n, names) && namearea::lawful::names_lawful(&at.of, n, names)
 }
 
 // 108, 102 and 103, in the paper's order.
-fn admit(over: bool, live: bool, waits: bool) -> Gate
+#[tactic(auto, unfolding(rules::specs::Admission::admitted, lists::specs::Pick::pick))]
+fn admit(over: bool, live: bool, waits: bool) -> Result<(), Refusal>
     ensures { result ≡ admitted over live waits }
 {
     if over {
-        return Gate::Shut(Refusal::StepOver);
+        return Err(Refusal::StepOver);
     }
     if !live {
-        return Gate::Shut(Refusal::NotLive);
+        return Err(Refusal::NotLive);
     }
     if waits {
-        return Gate::Shut(Refusal::Waits);
+        return Err(Refusal::Waits);
     }
-    Gate::Open
+    Ok(())
 }
 
-// The one gate: 100, then 108, and of whoever is named 102 and 103.
-fn gate(t: AllTables, names: &[u8], who: Caller) -> Gate
+// The one gate: 100, then 108, and of the calling task 102 and 103. DISPATCH and the reports name none.
+fn gate(t: AllTables, names: &[u8], who: Option<TaskNumber>) -> Result<(), Refusal>
     requires { length names.now ≡ name_area }
     ensures { result ≡ gated (in_tables t names.now) (gate_for who) }
 {
     if !is_sound(t, names) {
-        return Gate::Shut(Refusal::Unsound);
+        return Err(Refusal::Unsound);
     }
     match who {
-        Caller::Nobody => admit(t.over, true, false),
-        Caller::Named(caller) => {
-            let x = tasks::at(t.tasks, caller);
-            let k = x.condition;
-            admit(t.over, k.is_live(), k.waits())
+        None => admit(t.over, true, false),
+        Some(caller) => {
+            let condition = tasks::at(t.tasks, caller).condition;
+            admit(t.over, condition.is_live(), condition.waits())
         }
     }
 }
@@ -125,13 +115,13 @@ fn answering(t: Tables, reply: Reply) -> Answer
 }
 
 // A program error ends its caller, with its number. Only a caller's request can fail, so there is one.
-fn ended_by(t: AllTables, who: Caller, what: Fault) -> AllTables
+fn ended_by(t: AllTables, who: Option<TaskNumber>, what: Fault) -> AllTables
     requires { Ends t who }
     ensures { result ≡ ended_by what t who }
 {
     match who {
-        Caller::Nobody => t,
-        Caller::Named(caller) => tables::ending::ended(t, caller, what.number()),
+        None => t,
+        Some(caller) => tables::ending::ended(t, caller, what.number()),
     }
 }
 
@@ -143,15 +133,14 @@ fn replying(t: AllTables, reply: Reply) -> Upshot
 
 // What the verdict of a service comes to: only where it is to go on does the service's own answer stand. A body that
 // does not go on leaves the tables as it got them.
-fn settled(who: Caller, k: Made) -> Upshot
+#[tactic(auto, unfolding(crate::specs::Serve::settled_as, tables::specs::Bodies::told))]
+fn settled(who: Option<TaskNumber>, k: Made) -> Upshot
     requires { EndsIfFailed k who }
     ensures { replied result.reply result.tables ≡ settled_as (told k) who }
 {
-    let verdict = k.verdict;
-    let reply = k.reply;
-    match verdict {
-        Verdict::Go => replying(k.tables, reply),
-        Verdict::Refuse(why) => replying(k.tables, Reply::Refused(why)),
-        Verdict::Fail(what) => replying(ended_by(k.tables, who, what), Reply::Failed(what)),
+    match k.verdict {
+        Ok(()) => replying(k.tables, k.reply),
+        Err(No::Refuse(why)) => replying(k.tables, Reply::Refused(why)),
+        Err(No::Fail(what)) => replying(ended_by(k.tables, who, what), Reply::Failed(what)),
     }
 }

@@ -16,7 +16,7 @@ use kinds::NameList;
 use namearea::NameArea;
 use namearea::points::Points;
 use queue::Queue;
-use queue::offsets::Offsets;
+use queue::offsets::{Offsets, offsets_of, same_offsets, with_offsets};
 use tables::AllTables;
 
 // The names that entries still show, packed anew in the order of first entries.
@@ -24,17 +24,14 @@ fn packed_anew(t: AllTables, old: NameArea) -> Tables
     requires { PackedEntries t.queue × Clear name_area old.bytes (offsets_in t.queue) }
     ensures { result ≡ repacked t old }
 {
-    let at = queue::offsets::offsets_of(t.queue);
-    let from = at.of;
+    let at = offsets_of(t.queue);
     let n = t.queue.count;
     let mut to = at.of;
-    let fresh = NameArea::empty();
-    let mut bytes = fresh.bytes;
-    namearea::repack(&from[..n], &old.bytes, &mut to[..n], &mut bytes);
-    let q = queue::offsets::with_offsets(t.queue, Offsets { of: to });
+    let mut names = NameArea::empty();
+    namearea::repack(&at.of[..n], &old.bytes, &mut to[..n], &mut names.bytes);
     Tables {
-        all: tables::put_queue(t, q),
-        names: NameArea { bytes },
+        all: tables::put_queue(t, with_offsets(t.queue, Offsets { of: to })),
+        names,
     }
 }
 
@@ -43,22 +40,19 @@ pub(crate) fn left(before: Queue, t: AllTables, names: NameArea) -> Tables
     requires { Left before t.queue names }
     ensures { result ≡ repacked t names }
 {
-    if queue::offsets::same_offsets(before, t.queue) {
+    if same_offsets(before, t.queue) {
         return Tables { all: t, names };
     }
     packed_anew(t, names)
 }
 
 // New entries are at the tail: the names that are new stand behind those that were in use.
-pub(crate) fn joined(t: AllTables, names: NameArea, l: NameList, p: Points) -> Tables
+#[tactic(auto, unfolding(crate::specs::Naming::joined_by))]
+pub(crate) fn joined(t: AllTables, mut names: NameArea, l: NameList, p: Points) -> Tables
     requires { (every legal (names_of (names_in l)) ≡ true) × (l.count ≤ longest_list)
         × (p.from + length (spelling (new_names p l)) ≤ name_area) }
     ensures { result ≡ joined_by t names l p }
 {
-    let mut bytes = names.bytes;
-    namearea::append::append(&mut bytes, l, p);
-    Tables {
-        all: t,
-        names: NameArea { bytes },
-    }
+    namearea::append::append(&mut names.bytes, l, p);
+    Tables { all: t, names }
 }

@@ -13,9 +13,11 @@ ghost use Rattle.services.specs.Serve.{served_of, caller_in, named_by, entry_of,
 ghost use Rattle.services.specs.Serve.{Settles, served_in};
 
 use crate::naming::{joined, left};
-use crate::{Answer, Caller, Tables, Upshot, answering, gate, settled};
+use crate::{Answer, Tables, Upshot, answering, gate, settled};
 use events::{clear, post, wait};
-use kinds::{EcbList, Gate, NameList, NameOffset, Pointed, PointedList, Reply, Request};
+use kinds::{
+    EcbList, NameList, NameOffset, Pointed, PointedList, Refusal, Reply, Request, TaskNumber,
+};
 use mainstorage::{freemain, getmain};
 use resources::named::{deq_named, enq_named};
 use resources::{deq, enq};
@@ -24,73 +26,49 @@ use tables::AllTables;
 use tables::made::{Made, goes};
 
 // All but DISPATCH name the calling task.
-fn caller_of(request: Request) -> Caller
+fn caller_of(request: Request) -> Option<TaskNumber>
     ensures { result ≡ caller_in request }
 {
     match request {
-        Request::Attach { caller, .. } => Caller::Named(caller),
-        Request::Detach { caller, .. } => Caller::Named(caller),
-        Request::End { caller, .. } => Caller::Named(caller),
-        Request::Abend { caller, .. } => Caller::Named(caller),
-        Request::Enq { caller, .. } => Caller::Named(caller),
-        Request::Deq { caller, .. } => Caller::Named(caller),
-        Request::Wait { caller, .. } => Caller::Named(caller),
-        Request::Post { caller, .. } => Caller::Named(caller),
-        Request::Clear { caller, .. } => Caller::Named(caller),
-        Request::Getmain { caller, .. } => Caller::Named(caller),
-        Request::Freemain { caller, .. } => Caller::Named(caller),
-        Request::Dispatch => Caller::Nobody,
+        Request::Attach { caller, .. }
+        | Request::Detach { caller, .. }
+        | Request::End { caller, .. }
+        | Request::Abend { caller, .. }
+        | Request::Enq { caller, .. }
+        | Request::Deq { caller, .. }
+        | Request::Wait { caller, .. }
+        | Request::Post { caller, .. }
+        | Request::Clear { caller, .. }
+        | Request::Getmain { caller, .. }
+        | Request::Freemain { caller, .. } => Some(caller),
+        Request::Dispatch => None,
     }
 }
 
 // What the names beside a request say of it. Only ENQ and DEQ look at them.
-fn named(request: Request, names: NameList) -> Gate
+fn named(request: Request, names: NameList) -> Result<(), Refusal>
     ensures { result ≡ named_by request (names_in names) }
 {
     match request {
-        Request::Attach { .. } => Gate::Open,
-        Request::Detach { .. } => Gate::Open,
-        Request::End { .. } => Gate::Open,
-        Request::Abend { .. } => Gate::Open,
         Request::Enq { ret, .. } => enq_named(ret, names),
         Request::Deq { .. } => deq_named(names),
-        Request::Wait { .. } => Gate::Open,
-        Request::Post { .. } => Gate::Open,
-        Request::Clear { .. } => Gate::Open,
-        Request::Getmain { .. } => Gate::Open,
-        Request::Freemain { .. } => Gate::Open,
-        Request::Dispatch => Gate::Open,
+        _ => Ok(()),
     }
 }
 
 fn asks_names(request: Request) -> bool
     ensures { result ≡ asks_names request }
 {
-    match request {
-        Request::Attach { .. } => false,
-        Request::Detach { .. } => false,
-        Request::End { .. } => false,
-        Request::Abend { .. } => false,
-        Request::Enq { .. } => true,
-        Request::Deq { .. } => true,
-        Request::Wait { .. } => false,
-        Request::Post { .. } => false,
-        Request::Clear { .. } => false,
-        Request::Getmain { .. } => false,
-        Request::Freemain { .. } => false,
-        Request::Dispatch => false,
-    }
+    matches!(request, Request::Enq { .. } | Request::Deq { .. })
 }
 
 // The caller's gate, then that of the names.
-fn entry(t: AllTables, area: &[u8], request: Request, names: NameList) -> Gate
+fn entry(t: AllTables, area: &[u8], request: Request, names: NameList) -> Result<(), Refusal>
     requires { length area.now ≡ name_area }
     ensures { result ≡ entry_of (in_tables t area.now) request (names_in names) }
 {
-    match gate(t, area, caller_of(request)) {
-        Gate::Shut(why) => Gate::Shut(why),
-        Gate::Open => named(request, names),
-    }
+    gate(t, area, caller_of(request))?;
+    named(request, names)
 }
 
 // The body of the service that the request names, behind open gates, with offsets for names.
@@ -140,6 +118,7 @@ fn served(
 }
 
 // The body, and what its verdict comes to.
+#[tactic(auto, using(crate::proofs::Glue::settles_comes))]
 fn worked(
     t: AllTables,
     request: Request,
@@ -151,8 +130,7 @@ fn worked(
     ensures { record { outcome = replied result.reply result.tables; codes = codes.new }
         ≡ served_in (service_of (all_step_of t) request (pointed_in names) (ecbs_in ecbs) codes.old) }
 {
-    let who = caller_of(request);
-    settled(who, served(t, request, names, ecbs, codes))
+    settled(caller_of(request), served(t, request, names, ecbs, codes))
 }
 
 // No names stand beside the request.
@@ -177,8 +155,7 @@ impl Tables {
             ≡ served_by (service_of (step_of self) request (names_in names) (ecbs_in ecbs) codes.old) }
     {
         let k = worked(self.all, request, no_names(), ecbs, codes);
-        let reply = k.reply;
-        answering(left(self.all.queue, k.tables, self.names), reply)
+        answering(left(self.all.queue, k.tables, self.names), k.reply)
     }
 
     // ENQ and DEQ: the names are looked up first, and those that entries are new for stand behind the others.
@@ -196,14 +173,14 @@ impl Tables {
         let at = queue::offsets::offsets_of(self.all.queue);
         let p = namearea::points::points_of(&at.of, self.all.queue.count, &self.names.bytes, names);
         let k = worked(self.all, request, p.list, ecbs, codes);
-        let reply = k.reply;
         if self.all.queue.count < k.tables.queue.count {
-            return answering(joined(k.tables, self.names, names, p), reply);
+            return answering(joined(k.tables, self.names, names, p), k.reply);
         }
-        answering(left(self.all.queue, k.tables, self.names), reply)
+        answering(left(self.all.queue, k.tables, self.names), k.reply)
     }
 
     // 100, the gates, the service, its verdict, the names.
+    #[tactic(auto, using(crate::proofs::Glue::entry_admits, crate::proofs::Glue::serve_open))]
     pub fn serve(self, request: Request, names: NameList, ecbs: EcbList, codes: &mut [u8]) -> Answer
         ensures { said_with result codes.new
             ≡ served_of self (record {
@@ -214,13 +191,9 @@ impl Tables {
             }) }
     {
         match entry(self.all, &self.names.bytes, request, names) {
-            Gate::Shut(why) => answering(self, Reply::Refused(why)),
-            Gate::Open => {
-                if asks_names(request) {
-                    return self.with_names(request, names, ecbs, codes);
-                }
-                self.unnamed(request, names, ecbs, codes)
-            }
+            Err(why) => answering(self, Reply::Refused(why)),
+            Ok(()) if asks_names(request) => self.with_names(request, names, ecbs, codes),
+            Ok(()) => self.unnamed(request, names, ecbs, codes),
         }
     }
 
@@ -229,7 +202,6 @@ impl Tables {
         ensures { said result
             ≡ answered self (λ s. (service_of s request (names_in no_names) (ecbs_in ecbs) []).outcome) }
     {
-        let mut area = [0u8; 1];
-        self.serve(request, NameList::none(), ecbs, &mut area[..0])
+        self.serve(request, NameList::none(), ecbs, &mut [])
     }
 }

@@ -1,51 +1,72 @@
--- The stored form of a list, with areas appended.
-use mathlib.Core.Path.{◌≡◌, refl, sym, ap, ◌∙◌}
-use mathlib.Core.List.{List, [], ◌∷◌, ◌++◌, append-nil}
-use Prim.Native.Nat.{ℕ, ◌+◌, ◌≤◌, ◌<◌}
-use native.Mathlib.Omega.{arith}
-use lib.ListN.{length, take, get_or, length-take, length-append}
-use lib.Seq.{slice, slice_empty, append_snoc}
-use Rattle.lists.specs.Every.{slice_next}
+-- The stored form of a list, with an area put in.
+use Rattle.std.proofs.Common.{◌≡◌, sym, ap, ap₂, ◌∙◌, ℕ, suc, ◌+◌, ◌-◌, ◌≤◌, ◌<◌, List, [], ◌∷◌, ◌++◌}
+use Rattle.std.proofs.Common.{length, take, drop, get_or, set, take-suc, length-append, length-take-le, length-drop}
+use Rattle.std.proofs.Common.{arith, add-one, append_assoc}
+use Rattle.std.proofs.Math.ListN.{replicate}
+use Rattle.std.proofs.Math.Seq.{set-append_seam, append_snoc, take_at, drop_at}
+use Rattle.std.proofs.lemmas.List.{take-append-le, drop-append-le}
+use Rattle.std.specs.List.{copy_within}
 use Rattle.lists.specs.Packed as packed
+use Rattle.lists.specs.Tables.{padded}
+use Rattle.kinds.specs.Areas.{no_area}
 use Rattle.kinds.specs.Limits.{most_areas}
 use Rattle.kinds.specs.declared.areas.Area.{Area}
-use Rattle.storage.specs.Changes.{appended, extended}
-use Rattle.storage.specs.Stored.{stored_areas, areas_in}
+use Rattle.storage.specs.Changes.{inserted_at}
+use Rattle.storage.specs.Stored.{stored_areas, areas_in, PackedAreas}
 use Rattle.storage.specs.Kept.{table}
 use Rattle.storage.specs.declared.Storage.{Storage}
 
 pub length_live : (s : Storage) → length s.areas ≡ most_areas → s.count ≤ most_areas → length (areas_in s) ≡ s.count
 length_live = packed.live_count table
 
--- a storage that keeps l, with one more, and with several
-pub grown : {r s : Storage} (l : List Area) (x : Area) → length l < most_areas → r ≡ stored_areas l → s ≡ appended r x
-    → s ≡ stored_areas (l ++ (x ∷ []))
-grown {r} {s} l x h e f = packed.append_row table l x s r h e f
+module _ {A : Type 0} (z a : A) (rest l : List A) (i : ℕ) (h : i ≤ length l) where
+  abbrev xs : List A
+  xs = l ++ (z ∷ rest)
 
-pub then_more : {r q : Storage} (l m : List Area) → length l + length m ≤ most_areas → r ≡ stored_areas l
-    → q ≡ extended r m
-    → q ≡ stored_areas (l ++ m)
-unfolding extended
-then_more {r} l [] h e f = f ∙ e ∙ ap stored_areas (sym (append-nil l))
-then_more {r} l (a ∷ m) h e f =
-    then_more {r = appended r a} (l ++ (a ∷ [])) m (omega (arith, length-append l (a ∷ []))) (grown l a (omega arith) e refl) f
-    ∙ ap stored_areas (append_snoc l a m)
+  one_more : take (i + 1) xs ≡ take i l ++ (get_or xs i z ∷ [])
+  one_more =
+      rw (add-one) (take-suc xs i z (omega (arith, length-append l (z ∷ rest))))
+      ∙ ap (λ r. r ++ (get_or xs i z ∷ [])) (take-append-le i l (z ∷ rest) h)
 
--- a loop that appends the places i to n - 1 of an array
-module _ (s : Storage) (i n : ℕ) (xs : List Area) where
-  pub extended_end : i ≡ n → extended s (slice i n xs) ≡ s
-  unfolding extended
-  extended_end e = rw e (ap (extended s) (slice_empty n xs))
+  behind : take (length l - i) (drop i xs) ≡ drop i l
+  behind =
+      rw (drop-append-le i l (z ∷ rest) h)
+      (take_at (drop i l) (z ∷ rest) (length l - i) (omega (arith, length-drop i l)))
 
-  pub extended_on : (d : Area) → i < n → n ≤ length xs
-      → extended s (slice i n xs) ≡ extended (appended s (get_or xs i d)) (slice (i + 1) n xs)
-  unfolding extended
-  extended_on d h k = ap (extended s) (slice_next i n xs d h k)
+  past : drop ((i + 1) + (length l - i)) xs ≡ rest
+  past =
+      rw (sym (append_snoc l z rest))
+      (drop_at (l ++ (z ∷ [])) rest ((i + 1) + (length l - i)) (omega (arith, length-append l (z ∷ []))))
 
--- the first n areas, in a fresh storage
-module _ (xs : List Area) (n : ℕ) (long : length xs ≡ most_areas) (few : n ≤ most_areas) where
-  pub front : {r p : Storage} → r ≡ stored_areas [] → p ≡ extended r (slice 0 n xs) → p ≡ stored_areas (take n xs)
-  front e f = then_more [] (take n xs) (omega (arith, length-take n xs)) e f
+  -- those behind place i moved up by one, and an area put there
+  pub moved_up : set (copy_within xs i (length l) (i + 1)) i a ≡ (take i l ++ (a ∷ drop i l)) ++ rest
+  moved_up =
+      let f = take i l in
+      let w = get_or xs i z in
+      let k : length f ≡ i = length-take-le i l h in
+      let e : copy_within xs i (length l) (i + 1) ≡ f ++ (w ∷ (drop i l ++ rest)) =
+      rw (one_more, behind, past, append_snoc f w (drop i l)) (append_assoc f (w ∷ drop i l) rest) in
+      ap₂ (λ (u : List A) (j : ℕ). set u j a) e (sym k)
+      ∙ set-append_seam f w (drop i l ++ rest) a
+      ∙ sym (append_assoc f (a ∷ drop i l) rest)
 
-  pub front_count : {p : Storage} → p ≡ stored_areas (take n xs) → p.count ≡ n
-  front_count e = omega (arith, ap (λ (q : Storage). q.count) e, length-take n xs)
+-- an area put in at place i of a packed storage
+pub put_in : (s : Storage) → PackedAreas s → s.count < most_areas → (a : Area) (i : ℕ) → i ≤ s.count
+    → record { areas = set (copy_within s.areas i s.count (i + 1)) i a; count = s.count + 1 }
+    ≡ stored_areas (inserted_at i a (areas_in s))
+unfolding padded
+put_in s p h a i k =
+    let l = areas_in s in
+    let n : s.count ≡ length l = packed.stored_count table l s p.form in
+    let m = most_areas - (length l + 1) in
+    let e : most_areas - length l ≡ suc m = omega arith in
+    let q : length (inserted_at i a l) ≡ length l + 1 =
+    omega (arith, length-append (take i l) (a ∷ drop i l), length-take-le i l (omega arith), length-drop i l) in
+    let r : s.areas ≡ l ++ (no_area ∷ replicate m no_area) =
+    ap (λ (t : Storage). t.areas) p.form ∙ ap (λ (j : ℕ). l ++ replicate j no_area) e in
+    let d : m ≡ most_areas - length (inserted_at i a l) = omega arith in
+    ap₂ (λ (u : List Area) (c : ℕ). record { areas = u; count = c })
+    (ap₂ (λ (u : List Area) (c : ℕ). set (copy_within u i c (i + 1)) i a) r n
+    ∙ moved_up no_area a (replicate m no_area) l i (omega arith)
+    ∙ ap (λ (j : ℕ). inserted_at i a l ++ replicate j no_area) d)
+    (omega arith)

@@ -1,11 +1,15 @@
 -- Areas of which each starts above the one before it and is apart from it: a transitive test, whatever their shapes,
 -- so neighbours are enough.
 use mathlib.Core.Path.{◌≡◌, refl, sym, ◌∙◌}
-use mathlib.Core.Bool.{Bool, true, false, ◌&&◌, ◌||◌, or-true, or-false}
+use mathlib.Core.Bool.{Bool, true, false, ◌&&◌, ◌||◌, or-true, or-false, and-false}
 use mathlib.Core.List.{List, [], ◌∷◌}
-use Prim.Native.Nat.{ℕ, ◌≤◌, ◌<◌}
+use Prim.Native.Nat.{ℕ, zero, suc, ◌≤◌, ◌<◌}
 use native.Mathlib.Omega.{arith}
+use native.Mathlib.Numerals.{add-one}
 use lib.Dec.{eqb, leb}
+use lib.ListN.{length, get_or}
+use Rattle.std.specs.List.{IsAllAdjacentAnswer}
+use Rattle.lists.specs.Every.{every_gives}
 use borrow.Author.Tests.{leb-true, le-leb, lt-leb, ltb-true, eqb-true}
 use Rattle.lists.specs.Lists.{every, pairwise}
 use Rattle.lists.specs.Pairs.{Chains}
@@ -18,10 +22,6 @@ use Rattle.laws.specs.Areas.{rises, rises_chain}
 -- b starts above a and is apart from it
 abbrev pub after : Area → Area → Bool
 after a b = rises a b && apart a b
-
--- r is what a call answered
-pub tested : (a b : Area) (r : Bool) → r ≡ apart a b → (rises a b && r) ≡ after a b
-tested a b r e = rw e
 
 -- of two that rise, only the first can end before the other starts
 apart_upwards : (a b : Area) → start_of a < start_of b
@@ -83,6 +83,34 @@ module _ {A : Type 0} (p q : A → A → Bool) where
   pairs_both (x ∷ l) =
       rw (every_both x l, pairs_both l) (crossed (every (p x) l) (every (q x) l) (pairwise p l) (pairwise q l))
 
-pub in_order : (l : List Area) → pairwise after l ≡ (areas_rise l && areas_apart l)
+in_order : (l : List Area) → pairwise after l ≡ (areas_rise l && areas_apart l)
 unfolding areas_rise areas_apart
 in_order l = pairs_both rises apart l
+
+-- of a transitive test neighbours are enough
+module _ {A : Type 0} (p : A → A → Bool) (chain : Chains p) where
+  neighbours : (l : List A) → ((k : ℕ) (d : A) → suc k < length l → true ≡ p (get_or l k d) (get_or l (suc k) d))
+      → pairwise p l ≡ true
+  neighbours [] h = refl
+  neighbours (x ∷ []) h = refl
+  neighbours (x ∷ y ∷ l) h =
+      let e = neighbours (y ∷ l) (λ k d b. h (suc k) d (omega (arith, b))) in
+      let f : p x y ≡ true = sym (h 0 x (omega arith)) in
+      let g = every_gives (p y) (p x) (λ z. chain x y z f) l (both (every (p y) l) (pairwise p l) e).0 in
+      join (every (p x) (y ∷ l)) (pairwise p (y ∷ l)) (join (p x y) (every (p x) l) f g) e
+
+  no_neighbours : (l : List A) (k : ℕ) → suc k < length l → ((d : A) → false ≡ p (get_or l k d) (get_or l (suc k) d))
+      → pairwise p l ≡ false
+  no_neighbours [] k h e = absurd (omega arith)
+  no_neighbours (x ∷ []) k h e = absurd (omega arith)
+  no_neighbours (x ∷ y ∷ l) zero h e = rw (sym (e x))
+  no_neighbours (x ∷ y ∷ l) (suc k) h e =
+      rw (no_neighbours (y ∷ l) k (omega arith) e) (and-false (every (p x) (y ∷ l)))
+
+  pub sorted_pairs : (l : List A) (r : Bool) → IsAllAdjacentAnswer (λ x y b. b ≡ p x y) l r → r ≡ pairwise p l
+  sorted_pairs l true h = sym (neighbours l (λ k d b. rw add-one at (h k d (omega arith))))
+  sorted_pairs l false h = sym (no_neighbours l h.0 (omega (arith, h.1)) (λ d. rw add-one at (h.2 d)))
+
+pub sorted_in_order : (l : List Area) (r : Bool) → IsAllAdjacentAnswer (λ x y b. b ≡ after x y) l r
+    → r ≡ (areas_rise l && areas_apart l)
+sorted_in_order l r h = sorted_pairs after after_chain l r h ∙ in_order l

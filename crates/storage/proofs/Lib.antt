@@ -1,4 +1,3 @@
-pub mod AreaTests
 pub mod Tests
 pub mod Growing
 pub mod Ranks

@@ -1,14 +1,15 @@
 -- The place at which an area goes into a list.
-use mathlib.Core.Path.{◌≡◌, refl, ap, ◌∙◌}
+use mathlib.Core.Path.{◌≡◌, refl, sym, ap, ◌∙◌}
 use mathlib.Core.Bool.{Bool, true, false, cond}
 use mathlib.Core.List.{List, [], ◌∷◌}
-use Prim.Native.Nat.{ℕ, suc, ◌+◌, ◌≤◌, ◌<◌}
+use Prim.Native.Nat.{ℕ, suc, ◌+◌, ◌≤◌}
 use native.Mathlib.Omega.{arith}
-use borrow.Author.Tests.{lt-ltb, le-ltb}
+use borrow.Author.Tests.{ltb-false}
 use lib.Dec.{ltb}
-use lib.ListN.{length, get_or}
-use lib.Seq.{slice, slice_empty}
-use Rattle.lists.specs.Every.{slice_next}
+use lib.ListN.{length}
+use Rattle.std.specs.Prelude.{not, position, Some, None}
+use Rattle.std.specs.List.{position_or_len}
+use Rattle.std.specs.Option.{unwrap_or}
 use Rattle.kinds.specs.declared.areas.Area.{Area}
 use Rattle.rules.specs.Storage.{start_of, inserted_in}
 use Rattle.storage.specs.Changes.{rank_in, inserted_at}
@@ -34,17 +35,23 @@ unfolding rank_in
 rank_within a [] = omega arith
 rank_within a (b ∷ l) = rank_less (ltb (start_of a) (start_of b)) (rank_in a l) (length l) (rank_within a l)
 
--- a loop over the places i to n - 1
-module _ (a : Area) (i n : ℕ) (l : List Area) where
-  pub rank_end : i ≡ n → rank_in a (slice i n l) ≡ 0
-  unfolding rank_in
-  rank_end e = rw e (ap (rank_in a) (slice_empty n l))
+rank_prefix : (a : Area) (l : List Area) → rank_in a l ≡ position_or_len (λ (x : Area). ltb (start_of a) (start_of x)) l
+unfolding rank_in
+rank_prefix a [] = refl
+rank_prefix a (b ∷ l) = one (ltb (start_of a) (start_of b)) (rank_prefix a l)
+  where
+    one : (t : Bool) {m n : ℕ} → m ≡ n → cond t 0 (suc m) ≡ cond (not t) (1 + n) 0
+    one true e = refl
+    one false e = omega arith
 
-  module _ (d : Area) (h : i < n) (k : n ≤ length l) where
-    pub rank_stop : start_of a < start_of (get_or l i d) → rank_in a (slice i n l) ≡ 0
-    unfolding rank_in
-    rank_stop e = ap (rank_in a) (slice_next i n l d h k) ∙ rw (lt-ltb _ _ e)
+-- it is the place of the first that starts above a, or the place after the last
+pub rank_place : (a : Area) (l : List Area) (n : ℕ) → n ≡ length l
+    → unwrap_or (position (λ (x : Area). ltb (start_of a) (start_of x)) l) n ≡ rank_in a l
+rank_place a l n e = one _ refl (rank_within a l) ∙ sym (rank_prefix a l)
+  where
+    k : ℕ
+    k = position_or_len (λ (x : Area). ltb (start_of a) (start_of x)) l
 
-    pub rank_on : start_of (get_or l i d) ≤ start_of a → rank_in a (slice i n l) ≡ suc (rank_in a (slice (i + 1) n l))
-    unfolding rank_in
-    rank_on e = ap (rank_in a) (slice_next i n l d h k) ∙ rw (le-ltb _ _ e)
+    one : (b : Bool) → ltb k (length l) ≡ b → rank_in a l ≤ length l → unwrap_or (cond b (Some k) None) n ≡ k
+    one true t h = refl
+    one false t h = omega (arith, ltb-false k (length l) t, rank_prefix a l)

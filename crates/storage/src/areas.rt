@@ -19,23 +19,19 @@ pub fn end_of(a: Area) -> u64
     a.start.0 as u64 + a.size as u64
 }
 
+#[tactic(auto, unfolding(rules::specs::Storage::one_holder))]
 fn one_holder(a: Area, b: Area) -> bool
     ensures { result ≡ one_holder a b }
 {
-    if a.owner.0 != b.owner.0 {
-        return false;
-    }
-    a.subpool == b.subpool
+    a.owner == b.owner && a.subpool == b.subpool
 }
 
 // No byte in common.
+#[tactic(auto, unfolding(rules::specs::Storage::bytes_apart))]
 fn bytes_apart(a: Area, b: Area) -> bool
     ensures { result ≡ bytes_apart a b }
 {
-    if end_of(a) <= start_of(b) {
-        return true;
-    }
-    end_of(b) <= start_of(a)
+    end_of(a) <= start_of(b) || end_of(b) <= start_of(a)
 }
 
 // The first page that an area touches, and the page past its last.
@@ -48,60 +44,40 @@ fn first_page(a: Area) -> u64
 fn past_page(a: Area) -> u64
     ensures { result ≡ past_page a }
 {
-    let page = Address::PAGE as u64;
-    (end_of(a) + (page - 1)) / page
+    end_of(a).div_ceil(Address::PAGE as u64)
 }
 
 // No page in common.
+#[tactic(auto, unfolding(rules::specs::Storage::pages_apart))]
 fn pages_apart(a: Area, b: Area) -> bool
     ensures { result ≡ pages_apart a b }
 {
-    if past_page(a) <= first_page(b) {
-        return true;
-    }
-    past_page(b) <= first_page(a)
+    past_page(a) <= first_page(b) || past_page(b) <= first_page(a)
 }
 
 // No byte in common, and no page unless of one holder.
+#[tactic(auto, unfolding(rules::specs::Storage::apart))]
 pub fn apart(a: Area, b: Area) -> bool
     ensures { result ≡ apart_of a b }
 {
-    if !bytes_apart(a, b) {
-        return false;
-    }
-    if one_holder(a, b) {
-        return true;
-    }
-    pages_apart(a, b)
+    bytes_apart(a, b) && (one_holder(a, b) || pages_apart(a, b))
 }
 
+#[tactic(auto, unfolding(rules::specs::Storage::same_area))]
 pub fn same_area(a: Area, b: Area) -> bool
     ensures { result ≡ same_area a b }
 {
-    if a.start.0 != b.start.0 {
-        return false;
-    }
-    if a.size != b.size {
-        return false;
-    }
-    one_holder(a, b)
+    a.start == b.start && a.size == b.size && one_holder(a, b)
 }
 
 // Whole doublewords of the region, of a legal subpool.
+#[tactic(auto, unfolding(rules::specs::SoundAreas::area_shape_good))]
 pub fn shape_good(a: Area) -> bool
     ensures { result ≡ area_shape_good a }
 {
-    if a.size == 0 {
-        return false;
-    }
-    if a.size % Address::DOUBLEWORD != 0 {
-        return false;
-    }
-    if a.start.0 % Address::DOUBLEWORD != 0 {
-        return false;
-    }
-    if (Address::REGION as u64) < end_of(a) {
-        return false;
-    }
-    Area::subpool_good(a.subpool)
+    0 < a.size
+        && a.size % Address::DOUBLEWORD == 0
+        && a.start.0 % Address::DOUBLEWORD == 0
+        && end_of(a) <= Address::REGION as u64
+        && Area::subpool_good(a.subpool)
 }

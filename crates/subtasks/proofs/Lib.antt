@@ -1,3 +1,2 @@
 pub mod NewTask
-pub mod Sums
 pub mod Promises

@@ -7,11 +7,10 @@ use native.Mathlib.Omega.{arith}
 use Rattle.lists.specs.Pick.{chain_and}
 use Rattle.kinds.specs.Limits.{lowest_task, highest_task}
 use Rattle.kinds.specs.declared.tasks.Task.{Task}
-use Rattle.kinds.specs.declared.ecbs.Ecb.{Ecb}
 use Rattle.kinds.specs.declared.areas.Area.{Area}
 use Rattle.kinds.specs.declared.numbers.TaskNumber.{TaskNumber}
 use Rattle.rules.specs.Control.{Entry}
-use Rattle.rules.specs.Steps.{Step, with_tasks, with_queue, with_ecbs, with_areas}
+use Rattle.rules.specs.Steps.{Step, with_tasks, with_queue, with_areas}
 use Rattle.rules.specs.Sound.{sound_step}
 use Rattle.laws.specs.Running.{Running, running_parts}
 use Rattle.laws.specs.Chains.{used_pos, used_within}
@@ -20,10 +19,9 @@ use Rattle.laws.specs.Admitted.{open_running, open_used}
 use Rattle.tasks.specs.TaskTables.{task_table_of}
 use Rattle.queue.specs.Queues.{packed_entries, stored_entries}
 use Rattle.queue.proofs.Views.{Pointing, packed_kept as queue-kept, live_stored}
-use Rattle.ecbs.specs.Blocks.{ecb_table_of}
 use Rattle.storage.specs.Stored.{packed_areas, stored_areas}
 use Rattle.storage.specs.Kept.{packed_kept as areas-kept, live_stored as live-areas}
-use Rattle.tables.specs.Tables.{step_of, tables_of, Packed, sound_tables, Admitted, put_tasks, put_queue, put_ecbs}
+use Rattle.tables.specs.Tables.{step_of, tables_of, Packed, sound_tables, Admitted, put_tasks, put_queue}
 use Rattle.tables.specs.Tables.{put_storage}
 use Rattle.tables.specs.declared.AllTables.{AllTables}
 
@@ -76,14 +74,6 @@ module _ (t : AllTables) (p : Packed t) where
   queue_put q ts =
       ap (λ (u : AllTables). put_tasks (put_queue u (stored_entries q)) (task_table_of ts)) (sym (packed_tables t p))
 
-  pub ecbs_put : (es : List Ecb) → put_ecbs t (ecb_table_of es) ≡ tables_of (with_ecbs (step_of t) es)
-  ecbs_put es = ap (λ (u : AllTables). put_ecbs u (ecb_table_of es)) (sym (packed_tables t p))
-
-  pub waits_put : (es : List Ecb) (ts : List Task)
-      → put_tasks (put_ecbs t (ecb_table_of es)) (task_table_of ts) ≡ tables_of (with_ecbs (with_tasks (step_of t) ts) es)
-  waits_put es ts =
-      ap (λ (u : AllTables). put_tasks (put_ecbs u (ecb_table_of es)) (task_table_of ts)) (sym (packed_tables t p))
-
   pub areas_put : (l : List Area) → put_storage t (stored_areas l) ≡ tables_of (with_areas (step_of t) l)
   areas_put l = ap (λ (u : AllTables). put_storage u (stored_areas l)) (sym (packed_tables t p))
 
@@ -108,3 +98,5 @@ module _ (t : AllTables) (c : TaskNumber) (a : Admitted t c) where
               admitted_running.tasks.fits,
         ),
       )
+
+pub ruleset admits = (admitted_packed, admitted_running)

@@ -10,7 +10,7 @@ use Rattle.kinds.specs.Tasks.{is_live}
 use Rattle.kinds.specs.declared.numbers.TaskNumber.{TaskNumber}
 use Rattle.kinds.specs.declared.numbers.EcbNumber.{EcbNumber}
 use Rattle.kinds.specs.declared.tasks.Task.{Task}
-use Rattle.kinds.specs.declared.tasks.MaybeEcb.TheVariants.{Named}
+use Rattle.std.specs.Prelude.{Some}
 use Rattle.rules.specs.Control.{Entry}
 use Rattle.rules.specs.Family.{place, used}
 use Rattle.rules.specs.Attach.{maybe_good}
@@ -68,7 +68,7 @@ module _ (t : AllTables) (n : TaskNumber) (last : Task) (h : Running (step_of t)
 
 -- the ECB of a task in use is in range
 pub ecb_place : (s : Step) (c : ℕ) (x : Task) (e : EcbNumber)
-    → Running s → used s.tasks c ≡ true → x ≡ place s.tasks c → x.ecb ≡ Named e → e.0 ≤ highest_ecb
+    → Running s → used s.tasks c ≡ true → x ≡ place s.tasks c → x.ecb ≡ Some e → e.0 ≤ highest_ecb
 unfolding task_ecbs_good
 ecb_place s c x e h u p q =
     let ts = s.tasks in

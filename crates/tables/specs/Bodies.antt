@@ -1,7 +1,7 @@
 -- What the body of a service makes of the tables, and what a verdict makes of that.
 use Rattle.kinds.specs.Replies.{number_of, besides_in}
 use Rattle.kinds.specs.declared.replies.Reply.{Reply}
-use Rattle.kinds.specs.declared.replies.Verdict.{Verdict}
+use Rattle.kinds.specs.Replies.{Verdict}
 use Rattle.rules.specs.Steps.{Step, Outcome, done, kept_by}
 use Rattle.rules.specs.Admission.{on_go}
 use Rattle.tables.specs.Tables.{tables_of}

@@ -2,7 +2,7 @@
 use Rattle.std.specs.Prelude.{◌≡◌, Bool, true, false}
 use Rattle.lists.specs.Pick.{pick}
 use Rattle.kinds.specs.declared.numbers.TaskNumber.{TaskNumber}
-use Rattle.kinds.specs.declared.replies.Gate.TheVariants.{Open}
+use Rattle.std.specs.Prelude.{Ok}
 use Rattle.rules.specs.Steps.{Step}
 use Rattle.rules.specs.Admission.{gate_of}
 use Rattle.rules.specs.Sound.{sound_step}
@@ -49,7 +49,7 @@ sound_tables t =
 -- what an open gate gives to the service behind it
 pub record Admitted (t : AllTables) (c : TaskNumber) : Type 0 where
   pub sound : sound_tables t ≡ true
-  pub gate : gate_of (step_of t) c ≡ Open
+  pub gate : gate_of (step_of t) c ≡ Ok tt
 
 -- with one table put in the place of another
 abbrev pub put_tasks : AllTables → TaskTable → AllTables

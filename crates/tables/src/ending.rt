@@ -10,7 +10,7 @@ ghost use Rattle.tables.specs.Tables.{step_of, tables_of, Packed, Admitted};
 ghost use Rattle.tables.specs.Endings.{left_with};
 
 use crate::AllTables;
-use kinds::{Condition, EcbNumber, MaybeEcb, Task, TaskNumber};
+use kinds::{Condition, EcbNumber, Task, TaskNumber};
 
 // The one ending. Task n and all below it end: n's place becomes `last`, and what belonged to those who are live
 // no more goes with them.
@@ -18,45 +18,34 @@ pub fn without(t: AllTables, n: TaskNumber, last: Task) -> AllTables
     requires { Packed t × (Running (step_of t) × (is_live last.condition ≡ false)) }
     ensures { result ≡ tables_of (left_with t n last) }
 {
-    let all = t.tasks;
-    let q = t.queue;
-    let e = t.ecbs;
-    let s = t.storage;
-    let left = tasks::ending::end_tasks(all, n, last);
-    let entries = between::entries_ending::entries_left(q, left);
-    let woken = between::waking::wake(entries, left);
-    let blocks = between::waiters_ending::wait_bits_left(e, left);
-    let areas = between::owners::areas_left(s, left);
-    // All four change, so nothing of `t` is copied that would be written over.
+    let left = tasks::ending::end_tasks(t.tasks, n, last);
+    let entries = between::entries_ending::entries_left(t.queue, left);
     AllTables {
-        over: t.over,
-        code: t.code,
-        tasks: woken,
+        tasks: between::waking::wake(entries, left),
         queue: entries,
-        ecbs: blocks,
-        storage: areas,
+        ecbs: between::waiters_ending::wait_bits_left(t.ecbs, left),
+        storage: between::owners::areas_left(t.storage, left),
+        ..t
     }
 }
 
 // Task c, whose place is x, ends: the place is kept as ended, and the ECB that it was attached with is posted.
+#[tactic(auto, unfolding(between::specs::Posts::signals_of))]
 fn kept_as_ended(t: AllTables, c: TaskNumber, x: Task, ecb: EcbNumber, code: u16) -> AllTables
     requires { Packed t × (Running (step_of t) × (ecb.0 ≤ highest_ecb)) }
     ensures { result ≡ tables_of (posted (left_with t c (with_condition x Ended)) ecb.0 code) }
 {
-    let last = x.with_condition(Condition::Ended);
-    let u = without(t, c, last);
-    let e = u.ecbs;
-    let f = u.tasks;
-    let l = between::waiters::post(e, f, ecb, code as u32);
-    let d = l.ecbs;
-    let g = l.tasks;
-    let mut next = u;
-    next.ecbs = d;
-    next.tasks = g;
-    next
+    let left = without(t, c, x.with_condition(Condition::Ended));
+    let posted = between::waiters::post(left.ecbs, left.tasks, ecb, u32::from(code));
+    AllTables {
+        tasks: posted.tasks,
+        ecbs: posted.ecbs,
+        ..left
+    }
 }
 
 // Task c ends with this code and all below it: its ECB, if it was attached with one, is posted, and no other.
+#[tactic(auto, unfolding(rules::specs::Ending::ended, lists::specs::Pick::pick), using(crate::proofs::Admits::admits))]
 pub fn ended(t: AllTables, c: TaskNumber, code: u16) -> AllTables
     requires { Admitted t c }
     ensures { result ≡ tables_of (ended_of (step_of t) c.0 code) }
@@ -64,12 +53,9 @@ pub fn ended(t: AllTables, c: TaskNumber, code: u16) -> AllTables
     if c.0 == TaskNumber::LOWEST {
         return crate::over_with(code);
     }
-    let f = t.tasks;
-    let x = tasks::at(f, c);
-    let free = Task::free();
-    let own = x.ecb;
-    match own {
-        MaybeEcb::NoEcb => without(t, c, free),
-        MaybeEcb::Named(ecb) => kept_as_ended(t, c, x, ecb, code),
+    let x = tasks::at(t.tasks, c);
+    match x.ecb {
+        None => without(t, c, Task::free()),
+        Some(ecb) => kept_as_ended(t, c, x, ecb, code),
     }
 }

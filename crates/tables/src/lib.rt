@@ -26,51 +26,40 @@ pub struct AllTables {
 }
 
 // The tables of a step that is over.
+#[tactic(auto, unfolding(rules::specs::Steps::over_step))]
 pub fn over_with(code: u16) -> AllTables
     ensures { result ≡ tables_of (over_step code) }
 {
-    let f = tasks::empty();
-    let q = queue::empty();
-    let e = ecbs::empty();
-    let s = storage::empty();
     AllTables {
         over: true,
         code,
-        tasks: f,
-        queue: q,
-        ecbs: e,
-        storage: s,
+        tasks: tasks::empty(),
+        queue: queue::empty(),
+        ecbs: ecbs::empty(),
+        storage: storage::empty(),
     }
 }
 
 pub fn put_tasks(t: AllTables, f: TaskTable) -> AllTables
     ensures { result ≡ put_tasks t f }
 {
-    let mut next = t;
-    next.tasks = f;
-    next
+    AllTables { tasks: f, ..t }
 }
 
 pub fn put_queue(t: AllTables, q: Queue) -> AllTables
     ensures { result ≡ put_queue t q }
 {
-    let mut next = t;
-    next.queue = q;
-    next
+    AllTables { queue: q, ..t }
 }
 
 pub fn put_ecbs(t: AllTables, e: EcbTable) -> AllTables
     ensures { result ≡ put_ecbs t e }
 {
-    let mut next = t;
-    next.ecbs = e;
-    next
+    AllTables { ecbs: e, ..t }
 }
 
 pub fn put_storage(t: AllTables, s: Storage) -> AllTables
     ensures { result ≡ put_storage t s }
 {
-    let mut next = t;
-    next.storage = s;
-    next
+    AllTables { storage: s, ..t }
 }

@@ -1,32 +1,31 @@
 // What the body of a service makes: one form for all of them.
 ghost use Rattle.std.specs.Prelude.{◌≡◌};
 ghost use Rattle.kinds.specs.declared.replies.Reply.TheVariants.{Done};
-ghost use Rattle.kinds.specs.declared.replies.Verdict.TheVariants.{Go};
 
 use crate::AllTables;
-use kinds::{Reply, Verdict};
+use kinds::{No, Reply};
 
 // The tables change only where the verdict is to go on, and the reply counts only there.
 #[derive(Clone, Copy)]
 pub struct Made {
-    pub verdict: Verdict,
+    pub verdict: Result<(), No>,
     pub reply: Reply,
     pub tables: AllTables,
 }
 
 // The service goes on.
 pub fn goes(reply: Reply, t: AllTables) -> Made
-    ensures { result ≡ record { verdict = Go; reply = reply; tables = t } }
+    ensures { result ≡ record { verdict = Ok tt; reply = reply; tables = t } }
 {
     Made {
-        verdict: Verdict::Go,
+        verdict: Ok(()),
         reply,
         tables: t,
     }
 }
 
 // The service is refused or fails: the tables are as they were.
-pub fn stays(verdict: Verdict, t: AllTables) -> Made
+pub fn stays(verdict: Result<(), No>, t: AllTables) -> Made
     ensures { result ≡ record { verdict = verdict; reply = Done; tables = t } }
 {
     Made {

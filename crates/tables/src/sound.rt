@@ -15,62 +15,62 @@ use storage::Storage;
 use tasks::TaskTable;
 
 // The rules on the task table alone.
+#[tactic(auto, unfolding(rules::specs::Sound::sound_tasks))]
 fn tasks_good(f: TaskTable) -> bool
     ensures { result ≡ sound_tasks f.places }
 {
-    let a = tasks::sound::job_step_good(f);
-    let b = tasks::sound::mothers_good(f);
-    let d = tasks::sound::priorities_good(f);
-    let e = tasks::sound::task_ecbs_good(f);
-    let g = tasks::sound::ended_tasks_good(f);
-    let h = tasks::sound::free_places_good(f);
-    a & (b & (d & (e & (g & h))))
+    tasks::sound::job_step_good(f)
+        && tasks::sound::mothers_good(f)
+        && tasks::sound::priorities_good(f)
+        && tasks::sound::task_ecbs_good(f)
+        && tasks::sound::ended_tasks_good(f)
+        && tasks::sound::free_places_good(f)
 }
 
 // The rules on entries and resource waits.
+#[tactic(auto, unfolding(rules::specs::Sound::sound_queue))]
 fn queue_good(q: Queue, f: TaskTable) -> bool
     requires { q.count ≤ most_entries }
     ensures { result ≡ sound_queue f.places (entries_in q) }
 {
-    let a = queue::queue_fits(q);
-    let b = between::entries::entries_live(q, f);
-    let d = queue::entries_once(q);
-    let e = queue::entry_names_good(q);
-    let g = between::entries::waits_good(q, f);
-    a & (b & (d & (e & g)))
+    queue::queue_fits(q)
+        && between::entries::entries_live(q, f)
+        && queue::entries_once(q)
+        && queue::entry_names_good(q)
+        && between::entries::waits_good(q, f)
 }
 
 // The rules on ECBs and ECB waits.
+#[tactic(auto, unfolding(rules::specs::Sound::sound_ecbs))]
 fn ecbs_good(e: EcbTable, f: TaskTable) -> bool
     ensures { result ≡ sound_ecbs f.places e.ecbs }
 {
-    let a = between::waiters::waiters_good(e, f);
-    let b = between::waiters::needs_good(e, f);
-    let d = ecbs::words_good(e);
-    a & (b & d)
+    between::waiters::waiters_good(e, f)
+        && between::waiters::needs_good(e, f)
+        && ecbs::words_good(e)
 }
 
 // The rules on areas.
+#[tactic(auto, unfolding(rules::specs::Sound::sound_areas))]
 fn areas_good(s: Storage, f: TaskTable) -> bool
     requires { s.count ≤ most_areas }
     ensures { result ≡ sound_areas f.places (areas_in s) }
 {
-    let a = storage::areas_fit(s);
-    let b = storage::shapes_good(s);
-    let d = between::owners::owners_good(s, f);
-    let e = storage::areas_in_order(s);
-    a & (b & (d & e))
+    storage::areas_fit(s)
+        && storage::shapes_good(s)
+        && between::owners::owners_good(s, f)
+        && storage::areas_in_order(s)
 }
 
 // How many places there are.
+#[tactic(auto, unfolding(rules::specs::Sound::sizes_good))]
 fn sizes_good(f: TaskTable, e: EcbTable) -> bool
     ensures { result ≡ sizes_good f.places e.ecbs }
 {
-    let a = tasks::sound::tasks_fit(f);
-    let b = ecbs::ecbs_fit(e);
-    a & b
+    tasks::sound::tasks_fit(f) && ecbs::ecbs_fit(e)
 }
 
+#[tactic(auto, using(lists::specs::Arrays::none_taken, lists::specs::Arrays::mapped_length))]
 fn no_entry(q: Queue) -> bool
     requires { q.count ≤ most_entries }
     ensures { result ≡ none (entries_in q) }
@@ -78,6 +78,7 @@ fn no_entry(q: Queue) -> bool
     q.count == 0
 }
 
+#[tactic(auto, using(lists::specs::Arrays::none_taken, lists::specs::Arrays::mapped_length))]
 fn no_area(s: Storage) -> bool
     requires { s.count ≤ most_areas }
     ensures { result ≡ none (areas_in s) }
@@ -86,30 +87,31 @@ fn no_area(s: Storage) -> bool
 }
 
 // The rules on a step that runs.
+#[tactic(auto, unfolding(rules::specs::Sound::running_good))]
 fn running_good(t: AllTables) -> bool
     requires { (t.queue.count ≤ most_entries) × (t.storage.count ≤ most_areas) }
     ensures { result ≡ running_good (step_of t) }
 {
-    let a = sizes_good(t.tasks, t.ecbs);
-    let b = tasks_good(t.tasks);
-    let d = queue_good(t.queue, t.tasks);
-    let g = ecbs_good(t.ecbs, t.tasks);
-    let h = areas_good(t.storage, t.tasks);
-    a & ((t.code == 0) & (b & (d & (g & h))))
+    sizes_good(t.tasks, t.ecbs)
+        && t.code == 0
+        && tasks_good(t.tasks)
+        && queue_good(t.queue, t.tasks)
+        && ecbs_good(t.ecbs, t.tasks)
+        && areas_good(t.storage, t.tasks)
 }
 
 // "A step that is over has empty tables."
+#[tactic(auto, unfolding(rules::specs::Sound::over_good))]
 fn over_good(t: AllTables) -> bool
     requires { (t.queue.count ≤ most_entries) × (t.storage.count ≤ most_areas) }
     ensures { result ≡ over_good (step_of t) }
 {
-    let a = sizes_good(t.tasks, t.ecbs);
-    let b = Task::code_good(t.code);
-    let d = tasks::sound::all_zero(t.tasks);
-    let g = no_entry(t.queue);
-    let h = ecbs::all_zero(t.ecbs);
-    let i = no_area(t.storage);
-    a & (b & (d & (g & (h & i))))
+    sizes_good(t.tasks, t.ecbs)
+        && Task::code_good(t.code)
+        && tasks::sound::all_zero(t.tasks)
+        && no_entry(t.queue)
+        && ecbs::all_zero(t.ecbs)
+        && no_area(t.storage)
 }
 
 // No rule of sound tables is broken. The packed tests come first:

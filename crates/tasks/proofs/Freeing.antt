@@ -1,13 +1,13 @@
 -- A task and all below it end: its place first, then its subtasks.
 use mathlib.Core.Path.{◌≡◌, refl, sym, ◌∙◌}
 use mathlib.Core.Logic.{◌⊎◌, inl, inr, ⊎_elim}
-use mathlib.Core.Bool.{Bool, true, false, not}
+use mathlib.Core.Bool.{true, false}
 use mathlib.Core.List.{List}
 use Prim.Native.Nat.{ℕ, ◌-◌, ◌≤◌, ◌<◌}
 use native.Mathlib.Omega.{arith}
 use lib.Dec.{eqb}
 use lib.ListN.{length, length-set}
-use borrow.Author.Tests.{eqb-true, eqb-false, eq-eqb, ne_eqb, not-true, not-false}
+use borrow.Author.Tests.{eqb-true, eqb-false, eq-eqb, ne_eqb}
 use Rattle.lists.specs.Bools.{decided, never, not_so, same_test}
 use Rattle.kinds.specs.Limits.{lowest_task, highest_task}
 use Rattle.kinds.specs.Tasks.{no_task}
@@ -15,21 +15,12 @@ use Rattle.kinds.specs.declared.tasks.Task.{Task}
 use Rattle.rules.specs.Family.{place, with_place, used, mother, below, direct_subtask}
 use Rattle.rules.specs.Ending.{end_tasks}
 use Rattle.laws.specs.Conditions.{place_same, place_other}
-use Rattle.laws.specs.Wiping.{in_use, wiped, length_wiped, gone, kept, still, by_places, wiped_none, wiped_twice}
+use Rattle.laws.specs.Wiping.{wiped, length_wiped, gone, kept, still, by_places, wiped_none, wiped_twice}
 use Rattle.laws.specs.Chains.{only, used_same, mother_same, used_pos, used_within, used_places, wiped_fewer}
 use Rattle.laws.specs.Chains.{Chain, here, up, below_chain, chain_below, chain_goal}
 use Rattle.laws.specs.Ended.{stays, goes_last, goes_free, length_ended}
-use Rattle.tasks.proofs.Chains.{use_of}
 use Rattle.tasks.specs.Under.{under}
 use Rattle.tasks.proofs.Walks.{sub_mother, sub_make, under_chain, chain_under, unwiped}
-
--- WHAT THE CODE READS of a place x, and whether it is in use, b
-module _ (ts : List Task) (n : ℕ) {x : Task} {b : Bool} (e : x ≡ place ts n) (u : b ≡ in_use x) where
-  pub read_free : not b ≡ true → used ts n ≡ false
-  read_free h = use_of ts n x e false (sym u ∙ not-true b h)
-
-  pub read_used : not b ≡ false → used ts n ≡ true
-  read_used h = use_of ts n x e true (sym u ∙ not-false b h)
 
 pub in_places : (ts : List Task) (n : ℕ)
     → length ts ≡ highest_task → used ts n ≡ true → (lowest_task ≤ n) × (n ≤ highest_task)

@@ -1,4 +1,5 @@
 pub mod Chains
+pub mod Found
 pub mod Reaching
 pub mod Mothers
 pub mod Walks

@@ -4,15 +4,15 @@ use mathlib.Core.Path.{◌≡◌, refl, sym, ap, subst, ◌∙◌}
 use mathlib.Core.Logic.{◌⊎◌, inl, inr, ⊎_elim}
 use mathlib.Core.Bool.{Bool, true, false, not, ◌&&◌, ◌||◌, or-true, false≢true}
 use mathlib.Core.List.{List}
-use Prim.Native.Nat.{ℕ, zero, suc, ◌+◌, ◌-◌, ◌≤◌, ◌<◌}
+use Prim.Native.Nat.{ℕ, zero, suc, ◌+◌, ◌≤◌, ◌<◌}
 use native.Mathlib.Numerals.{add-one}
 use native.Mathlib.Omega.{arith}
-use lib.Dec.{eqb, leb}
-use lib.ListN.{length, get_or}
-use borrow.Author.Tests.{ne_eqb, leb-true, leb-false, not-true, not-false}
-use Rattle.lists.specs.Bools.{both, never, not_so, decided}
+use lib.Dec.{eqb}
+use lib.ListN.{length}
+use borrow.Author.Tests.{ne_eqb, not-false}
+use Rattle.lists.specs.Bools.{both, never, not_so}
 use Rattle.kinds.specs.Limits.{job_step_task, highest_task}
-use Rattle.kinds.specs.Tasks.{no_task, is_free, is_live}
+use Rattle.kinds.specs.Tasks.{is_free, is_live}
 use Rattle.kinds.specs.declared.tasks.Task.{Task}
 use Rattle.rules.specs.Family.{place, live, used, mother, chain, below}
 use Rattle.rules.specs.SoundTasks.{mother_good, mothers_good}
@@ -20,7 +20,7 @@ use Rattle.laws.specs.Admitted.{live_used}
 use Rattle.laws.specs.Wiping.{in_use}
 use Rattle.laws.specs.Chains.{only, Chain, here, up, below_chain, chain_below}
 use Rattle.laws.specs.Mothers.{has_mother}
-use Rattle.tasks.proofs.Chains.{chain_next, chain_done}
+use Rattle.tasks.proofs.Chains.{use_of, chain_next}
 
 -- task k's chain comes to task 1
 abbrev Rooted : List Task → ℕ → Type 0
@@ -37,19 +37,9 @@ module _ (ts : List Task) where
   kept_first (suc zero) h = rw (or-true (is_free (place ts 1).condition))
   kept_first (suc (suc k)) h = absurd (omega arith)
 
-  pub kept_next : (n : ℕ) → ((k : ℕ) → k ≤ n → Kept k) → Kept (n + 1) → (k : ℕ) → k ≤ n + 1 → Kept k
-  kept_next n h g k le =
-      ⊎_elim (λ e. h k (leb-true k n e))
-      (λ e. let i : n + 1 ≡ k = omega (arith, leb-false k n e) in subst Kept i g)
-      (decided (leb k n))
-
-  place_of : (i : ℕ) → place ts (i + 1) ≡ get_or ts i no_task
-  unfolding place
-  place_of i = rw (add-one i)
-
-  pub kept_free : (i : ℕ) → in_use (get_or ts i no_task) ≡ false → Kept (i + 1)
+  pub kept_free : (n : ℕ) (x : Task) → x ≡ place ts n → in_use x ≡ false → Kept n
   unfolding mother_good
-  kept_free i h = rw (place_of i, not-false (is_free (get_or ts i no_task).condition) h)
+  kept_free n x e h = rw (← e, not-false (is_free x.condition) h)
 
   kept_rooted : (k : ℕ) → used ts k ≡ true → Kept k → Rooted ts k
   unfolding mother_good used
@@ -61,61 +51,83 @@ module _ (ts : List Task) where
       one false true q v g = here u q
       one false false q v g = below_chain ts job_step_task k (both (live ts (place ts k).mother.0) _ g).1
 
--- THE WALK from task n has come to task a, whose mother is m, with so many steps left
-pub record Walk (ts : List Task) (n a m left : ℕ) : Type 0 where
-  pub in_use : used ts a ≡ true
-  pub mothers : m ≡ mother ts a
+-- THE WALK from task n has come to a task no lower, whose place is x, with so many steps left
+pub record Walk (ts : List Task) (n : ℕ) (x : Task) (left : ℕ) : Type 0 where
+  pub at : ℕ
+  pub there : x ≡ place ts at
+  pub high : n ≤ at
+  pub in_use : used ts at ≡ true
   -- by the rule these steps are enough
-  pub owed : mothers_good ts ≡ true → chain left ts (only job_step_task) a ≡ true
-  pub back : Rooted ts a → Rooted ts n
-  pub first : (a ≡ n) ⊎ (live ts (mother ts n) ≡ true)
+  pub owed : mothers_good ts ≡ true → chain left ts (only job_step_task) at ≡ true
+  pub back : Rooted ts at → Rooted ts n
+  pub first : (at ≡ n) ⊎ (live ts (mother ts n) ≡ true)
 
-pub walk_starts : (ts : List Task) (i : ℕ) → 0 < i → in_use (get_or ts i no_task) ≡ true
-    → Walk ts (i + 1) (i + 1) (get_or ts i no_task).mother.0 highest_task
-unfolding used mother below
-walk_starts ts i low h =
-    let u = ap in_use (place_of ts i) ∙ h in
-    record {
-      in_use = u;
-      mothers = ap (λ (y : Task). y.mother.0) (sym (place_of ts i));
-      owed = λ g. (has_mother ts g (i + 1) u (λ e. omega arith)).1;
-      back = λ r. r;
-      first = inl refl;
-    }
+module _ (ts : List Task) (n : ℕ) (low : job_step_task < n) (x : Task) where
+  pub walk_starts : x ≡ place ts n → in_use x ≡ true → Walk ts n x highest_task
+  unfolding below
+  walk_starts e h =
+      let u = use_of ts n x true e (sym h) in
+      record {
+        at = n;
+        there = e;
+        high = omega arith;
+        in_use = u;
+        owed = λ g. (has_mother ts g n u (λ i. omega arith)).1;
+        back = λ r. r;
+        first = inl refl;
+      }
 
-module _ (ts : List Task) (n a m left : ℕ) (w : Walk ts n a m left) where
-  pub walk_ends : length ts ≡ highest_task → a < n → Kept ts a → Kept ts n
-  unfolding mother_good mother
-  walk_ends fit h g =
-      let b = chain_below ts job_step_task n fit (w.back (kept_rooted ts a w.in_use g)) in
-      let l = ⊎_elim (λ e. absurd (omega (arith, e))) (λ l. l) w.first in
-      rw (b, l) (or-true (is_free (place ts n).condition || eqb n job_step_task))
+  module _ (left : ℕ) (w : Walk ts n x left) where
+    pub walk_spent : left ≡ 0 → false ≡ mothers_good ts
+    unfolding chain
+    walk_spent h =
+        sym (not_so (mothers_good ts) (λ g. never (chain left ts (only job_step_task) w.at) (w.owed g) (rw h)))
 
-  pub walk_spent : left ≤ 0 → false ≡ mothers_good ts
-  walk_spent h =
-      sym (not_so (mothers_good ts) (λ g. never (chain left ts (only job_step_task) a) (w.owed g)
-      (sym (chain_done left ts (only job_step_task) a h))))
+    not_first : w.at ≡ job_step_task → ⊥
+    not_first i = omega (arith, w.high)
 
-  -- a is not task 1, and its mother's place is y
-  module _ (d : a ≡ job_step_task → ⊥) (y : Task) (e : y ≡ place ts m) where
-    -- her place tells whether a's mother is live
-    alive : is_live y.condition ≡ live ts (mother ts a)
-    alive = ap (λ (z : Task). is_live z.condition) e ∙ ap (live ts) w.mothers
+    mothers : x.mother.0 ≡ mother ts w.at
+    unfolding mother
+    mothers = ap (λ (y : Task). y.mother.0) w.there
 
-    pub walk_stops : is_live y.condition ≡ false → false ≡ mothers_good ts
-    walk_stops h =
-        sym (not_so (mothers_good ts) (λ g. never (live ts (mother ts a)) (has_mother ts g a w.in_use d).0
-        (sym alive ∙ h)))
+    -- the mother's place is y
+    module _ (y : Task) (e : y ≡ place ts x.mother.0) where
+      alive : is_live y.condition ≡ live ts (mother ts w.at)
+      alive = ap (λ (z : Task). is_live z.condition) e ∙ ap (live ts) mothers
 
-    pub walk_on : is_live y.condition ≡ true → 0 < left → Walk ts n m y.mother.0 (left - 1)
-    unfolding used mother
-    walk_on h s = record {
-      in_use = live_used ts m (ap (λ (z : Task). is_live z.condition) (sym e) ∙ h);
-      mothers = ap (λ (z : Task). z.mother.0) e;
-      owed =
-          λ g. ap (chain (left - 1) ts (only job_step_task)) w.mothers
-          ∙ chain_next ts job_step_task a (place ts a) refl left s (not-true _ w.in_use) (ne_eqb a job_step_task d)
-          ∙ w.owed g;
-      back = λ r. w.back (up w.in_use (subst (Rooted ts) w.mothers r));
-      first = ⊎_elim (λ i. inr (ap (λ (k : ℕ). live ts (mother ts k)) (sym i) ∙ sym alive ∙ h)) inr w.first;
-    }
+      pub walk_stops : is_live y.condition ≡ false → false ≡ mothers_good ts
+      walk_stops h =
+          sym (not_so (mothers_good ts) (λ g. never (live ts (mother ts w.at))
+          (has_mother ts g w.at w.in_use not_first).0 (sym alive ∙ h)))
+
+      module _ (h : is_live y.condition ≡ true) where
+        mother_used : used ts x.mother.0 ≡ true
+        mother_used = live_used ts x.mother.0 (ap (λ (z : Task). is_live z.condition) (sym e) ∙ h)
+
+        further : Rooted ts x.mother.0 → Rooted ts n
+        further r = w.back (up w.in_use (subst (Rooted ts) mothers r))
+
+        first_live : live ts (mother ts n) ≡ true
+        first_live = ⊎_elim (λ i. ap (λ (k : ℕ). live ts (mother ts k)) (sym i) ∙ sym alive ∙ h) (λ l. l) w.first
+
+        pub walk_on : (next : ℕ) → left ≡ next + 1 → n ≤ x.mother.0 → Walk ts n y next
+        walk_on next s high = record {
+          at = x.mother.0;
+          there = e;
+          high = high;
+          in_use = mother_used;
+          owed =
+              λ g. ap (chain next ts (only job_step_task)) mothers
+              ∙ sym (chain_next ts job_step_task w.at next w.in_use (ne_eqb w.at job_step_task not_first))
+              ∙ ap (λ (k : ℕ). chain k ts (only job_step_task) w.at) (sym (s ∙ add-one next))
+              ∙ w.owed g;
+          back = further;
+          first = inr first_live;
+        }
+
+        -- she is lower, and keeps the rule
+        pub walk_ends : length ts ≡ highest_task → Kept ts x.mother.0 → Kept ts n
+        unfolding mother_good mother
+        walk_ends fit g =
+            let b = chain_below ts job_step_task n fit (further (kept_rooted ts x.mother.0 mother_used g)) in
+            rw (b, first_live) (or-true (is_free (place ts n).condition || eqb n job_step_task))

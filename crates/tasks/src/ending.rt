@@ -12,44 +12,35 @@ use kinds::{Task, TaskNumber};
 
 // Frees task n and all below it. A number that no task in use has changes nothing.
 #[cycle(end_subtasks_end_task)]
-fn end_task(f: TaskTable, n: TaskNumber) -> TaskTable
-    ensures { result ≡ task_table_of (wiped (below f.places n.0) f.places) }
+fn end_task(f: &mut TaskTable, n: TaskNumber)
+    ensures { f.new ≡ task_table_of (wiped (below f.old.places n.0) f.old.places) }
 {
-    let x = crate::at(f, n);
-    if !crate::in_use(x) {
-        return f;
+    if crate::in_use(f.place(n)) {
+        f.set(n, Task::free());
+        end_subtasks(f, n);
     }
-    let y = Task::free();
-    let g = crate::with_place(f, n, y);
-    end_subtasks(g, n)
 }
 
 // Frees each direct subtask of n and all below it.
 #[cycle(end_subtasks_end_task)]
-fn end_subtasks(f: TaskTable, n: TaskNumber) -> TaskTable
-    ensures { result ≡ task_table_of (wiped (under f.places n.0) f.places) }
+fn end_subtasks(f: &mut TaskTable, n: TaskNumber)
+    ensures { f.new ≡ task_table_of (wiped (under f.old.places n.0) f.old.places) }
 {
-    let mut g = f;
-    let mut k: u8 = 0;
-    while k < TaskNumber::HIGHEST {
-        let i = k as usize;
-        let x = g.places[i];
-        k += 1;
-        if crate::direct::is_subtask_of(x, n) {
-            g = end_task(g, TaskNumber(k));
+    for k in 0..TaskNumber::HIGHEST {
+        if crate::direct::is_subtask_of(f.places[k as usize], n) {
+            end_task(f, TaskNumber(k + 1));
         }
     }
-    g
 }
 
 // Task c and all below it end, and c's place becomes `last`. A number that no task in use has changes nothing.
 pub fn end_tasks(f: TaskTable, c: TaskNumber, last: Task) -> TaskTable
     ensures { result ≡ task_table_of (end_tasks f.places c.0 last) }
 {
-    let x = crate::at(f, c);
-    if !crate::in_use(x) {
-        return f;
+    let mut g = f;
+    if crate::in_use(g.place(c)) {
+        end_task(&mut g, c);
+        g.set(c, last);
     }
-    let g = end_task(f, c);
-    crate::with_place(g, c, last)
+    g
 }

@@ -19,13 +19,33 @@ pub struct TaskTable {
     pub places: [Task; TaskNumber::PLACES],
 }
 
+impl TaskTable {
+    // A task's place; a number that has no place counts as free.
+    fn place(&self, n: TaskNumber) -> Task
+        ensures { result ≡ place self.now.places n.0 }
+    {
+        if n.is_good() {
+            self.places[(n.0 - TaskNumber::LOWEST) as usize]
+        } else {
+            Task::free()
+        }
+    }
+
+    // x comes to stand at place n.
+    fn set(&mut self, n: TaskNumber, x: Task)
+        requires { (lowest_task ≤ n.0) × (n.0 ≤ highest_task) }
+        ensures { self.new ≡ task_table_of (with_place self.old.places n.0 x) }
+    {
+        self.places[(n.0 - TaskNumber::LOWEST) as usize] = x;
+    }
+}
+
 // No task.
 pub fn empty() -> TaskTable
     ensures { result ≡ task_table_of nobody }
 {
-    let x = Task::free();
     TaskTable {
-        places: [x; TaskNumber::PLACES],
+        places: [Task::free(); TaskNumber::PLACES],
     }
 }
 
@@ -33,31 +53,20 @@ pub fn empty() -> TaskTable
 pub fn at(f: TaskTable, n: TaskNumber) -> Task
     ensures { result ≡ place f.places n.0 }
 {
-    let k = n.0;
-    if k == 0 {
-        return Task::free();
-    }
-    if TaskNumber::HIGHEST < k {
-        return Task::free();
-    }
-    let i = (k - 1) as usize;
-    f.places[i]
+    f.place(n)
 }
 
 pub fn is_live(f: TaskTable, n: TaskNumber) -> bool
     ensures { result ≡ live f.places n.0 }
 {
-    let x = at(f, n);
-    let k = x.condition;
-    k.is_live()
+    f.place(n).condition.is_live()
 }
 
 // x is the place of a task that is live, or ended and not detached.
 pub fn in_use(x: Task) -> bool
     ensures { result ≡ in_use x }
 {
-    let k = x.condition;
-    !k.is_free()
+    !x.condition.is_free()
 }
 
 // The task table with x at place n.
@@ -65,8 +74,7 @@ pub fn with_place(f: TaskTable, n: TaskNumber, x: Task) -> TaskTable
     requires { (lowest_task ≤ n.0) × (n.0 ≤ highest_task) }
     ensures { result ≡ task_table_of (with_place f.places n.0 x) }
 {
-    let i = (n.0 - TaskNumber::LOWEST) as usize;
     let mut g = f;
-    g.places[i] = x;
+    g.set(n, x);
     g
 }

@@ -1,15 +1,8 @@
--- The first i ECBs are unwaited, the others are as before (invariant); places left fall (measure).
-use Prim.Native.Nat.{ℕ, ◌-◌}
-use mathlib.Core.Path.{◌≡◌}
-use lib.ListN.{length}
-use Rattle.lists.specs.Numbered.{up_to}
-use Rattle.kinds.specs.Limits.{all_ecbs}
+-- The ECBs up to the index are unwaited, the others are as before.
+use Rattle.std.proofs.Common.{◌≡◌, ◌++◌, map, take, drop}
 use Rattle.rules.specs.Events.{unwaited}
 use Rattle.ecbs.proofs.unwaited_all.Given as goal
 
-abbrev pub invariant-loop-i : goal.invariant-loop-i
-invariant-loop-i l =
-    (l.r.ecbs ≡ up_to (λ (k : ℕ). unwaited l.w.0) 0 l.i l.initial.r.ecbs) × (length l.initial.r.ecbs ≡ all_ecbs)
-
-abbrev pub decreases-loop-i : goal.decreases-loop-i
-decreases-loop-i l = all_ecbs - l.i
+abbrev pub invariant-loop-x : goal.invariant-loop-x
+invariant-loop-x l =
+    l.x-items ≡ map (unwaited l.w.0) (take l.x-index l.initial.x-items) ++ drop l.x-index l.initial.x-items

@@ -1,14 +1,8 @@
--- The wait bits of the first i ECBs are counted (invariant); places left to look at fall (measure).
-use Prim.Native.Nat.{◌+◌, ◌≤◌, ◌-◌}
-use mathlib.Core.Path.{◌≡◌}
-use lib.ListN.{length, take}
-use Rattle.kinds.specs.Limits.{highest_task, all_ecbs}
+-- The wait bits of the ECBs up to the index are counted.
+use Rattle.std.proofs.Common.{◌≡◌, ◌+◌, take}
+use Rattle.kinds.specs.Limits.{highest_task}
 use Rattle.ecbs.specs.Blocks.{tally_from}
 use Rattle.ecbs.proofs.waited_on.Given as goal
 
-abbrev pub invariant-loop-i : goal.invariant-loop-i
-invariant-loop-i l =
-    (l.t.ecbs ≡ tally_from (highest_task + 1) 0 (take l.i l.e.ecbs)) × ((l.i ≤ all_ecbs) × (length l.e.ecbs ≡ all_ecbs))
-
-abbrev pub decreases-loop-i : goal.decreases-loop-i
-decreases-loop-i l = all_ecbs - l.i
+abbrev pub invariant-loop-x : goal.invariant-loop-x
+invariant-loop-x l = l.t.ecbs ≡ tally_from (highest_task + 1) 0 (take l.x-index l.fn.e.ecbs)

@@ -1,39 +1,31 @@
--- Each return cites the comparisons that led to it, over as many bytes as the arrays have.
-use mathlib.Core.Path.{sym, ◌∙◌}
+-- Where both lengths are one, both answers cite that the bytes which are there are compared.
+use Rattle.std.proofs.Common.{rules, ◌≡◌, true, false, take, eqb-true, sym, ◌∙◌}
 use mathlib.Core.Bool.{and-true, and-false}
-use borrow.Author.Rules.{rules}
-use lib.Seq.{length-take-le}
-use Rattle.lists.specs.Pick.{test_held_not, test_failed_not}
-use Rattle.names.proofs.Shown.{used_within, differ, minors}
-use Rattle.std.proofs.lemmas.Bool.{not_from_true, not_from_false}
+use Rattle.lists.specs.Lists.{same_bytes}
+use Rattle.names.proofs.Shown.{minors, differ}
+use Rattle.names.proofs.same_name.Goals.{then-a-b, else-a-b}
 use Rattle.names.proofs.same_name.Goals as goal
 
-pub returns-then-a-b : goal.returns-then-a-b
-returns-then-a-b c = differ c.args.a c.args.b c.if-a-b.true
+pub returns-then-same_bytes : goal.returns-then-same_bytes
+returns-then-same_bytes c =
+    let a = c.args.a in
+    let b = c.args.b in
+    elim c.if-a-b.branch [
+      | then-a-b w ↦
+          let t : same_bytes (take c.used-n.result a.minor) (take c.used-n.result b.minor) ≡ true = cc in
+          c.same_bytes-then-same_bytes.ensures
+          ∙ sym (minors a b _ w.if-a-b.true (search rules) (search rules) c.used-n.ensures ∙ rw (t, and-true))
+      | else-a-b w ↦ absurd (w.if-a-b.false (eqb-true _ _ (sym w.value-is ∙ c.if-same_bytes.true)))
+    ]
 
-pub slice_bounds-ai-end : goal.slice_bounds-ai-end
-slice_bounds-ai-end c = search (rules, used_within)
-
-pub slice_bounds-same_bytes-end : goal.slice_bounds-same_bytes-end
-slice_bounds-same_bytes-end c = search (rules, length-take-le, used_within)
-
-pub slice_bounds-bi-end : goal.slice_bounds-bi-end
-slice_bounds-bi-end c = search (rules, used_within)
-
-pub slice_bounds-same_bytes-end-2 : goal.slice_bounds-same_bytes-end-2
-slice_bounds-same_bytes-end-2 c = search (rules, length-take-le, used_within)
-
-pub returns-then-not-same_bytes : goal.returns-then-not-same_bytes
-returns-then-not-same_bytes c =
-    let t = test_failed_not _ _ c.same_bytes.ensures (not_from_false _ c.if-not-same_bytes.true) in
-    let u = c.used-n.ensures in
-    let l = c.if-a-b.false in
-    sym (minors c.args.a c.args.b _ l (search rules) (search rules) u ∙ rw (t, and-false))
-
-pub returns : goal.returns
-returns c =
-    let t = test_held_not _ _ c.same_bytes.ensures (not_from_true _ c.if-not-same_bytes.false) in
-    let u = c.used-n.ensures in
-    let l = c.if-a-b.false in
-    c.same_bytes-2.ensures
-    ∙ sym (minors c.args.a c.args.b _ l (search rules) (search rules) u ∙ rw (t, and-true))
+pub returns-else-same_bytes : goal.returns-else-same_bytes
+returns-else-same_bytes c =
+    let a = c.args.a in
+    let b = c.args.b in
+    c.if-same_bytes.false
+    ∙ elim c.if-a-b.branch [
+      | then-a-b w ↦
+          let t : same_bytes (take c.used-n.result a.minor) (take c.used-n.result b.minor) ≡ false = cc in
+          sym (minors a b _ w.if-a-b.true (search rules) (search rules) c.used-n.ensures ∙ rw (t, and-false))
+      | else-a-b w ↦ differ a b w.if-a-b.false
+    ]

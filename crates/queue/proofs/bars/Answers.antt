@@ -1,14 +1,16 @@
--- The tests are the parts of the definition, two offsets being equal where their names are one.
-use mathlib.Core.Path.{sym, ap}
-use mathlib.Core.Bool.{Bool, ◌&&◌, ◌||◌}
-use Rattle.names.specs.Pointers.{same_pointer}
+use Rattle.std.proofs.Common.{arith}
+use Rattle.std.proofs.lemmas.Grind.{common_steps}
 use Rattle.rules.specs.Rings.{bars}
 use Rattle.queue.proofs.bars.Goals as goal
 
-pub returns : goal.returns
+pub returns-then-x : goal.returns-then-x
 unfolding bars
-returns c =
-    let a = c.args in
-    let x = a.x in
-    let e = a.e in
-    sym (ap (λ (b : Bool). b && (x.exclusive || e.exclusive)) (same_pointer x.name.0 e.name.0))
+returns-then-x c = grind (arith, common_steps)
+
+pub returns-else-x : goal.returns-else-x
+unfolding bars
+returns-else-x c = grind (arith, common_steps)
+
+pub returns-else-eq : goal.returns-else-eq
+unfolding bars
+returns-else-eq c = grind (arith, common_steps)

@@ -1,22 +1,36 @@
-use native.Mathlib.Omega.{arith}
-use borrow.Author.Rules.{rules}
+use Rattle.std.proofs.Common.{rules, arith, Bool, ◌≡◌, ◌&&◌, ◌-◌, length, take, drop, refl, sym, ap, ap₂, ◌∙◌}
+use Rattle.std.proofs.Common.{take_all, length-drop}
+use Rattle.std.proofs.lemmas.List.Folds.{list_all_more}
+use Rattle.lists.specs.Lists.{every}
 use Rattle.lists.specs.Pick.{chosen}
 use Rattle.lists.specs.Arrays.{mapped_length}
-use Rattle.queue.specs.Queues.{packed_entries}
-use Rattle.queue.proofs.Tests.{zero_start, zero_next, zero_over}
+use Rattle.kinds.specs.declared.names.Slot.{Slot}
+use Rattle.queue.specs.Queues.{is_zero, packed_entries}
+use Rattle.queue.proofs.Tests.{packed_is}
 use Rattle.queue.proofs.packed.Goals as goal
 
-pub returns-then-n-gt-PLACES : goal.returns-then-n-gt-PLACES
+pub returns-then-q-gt-PLACES : goal.returns-then-q-gt-PLACES
 unfolding packed_entries
-returns-then-n-gt-PLACES c = search chosen depth 10
+returns-then-q-gt-PLACES c = search chosen depth 10
 
-pub loop-i-init : goal.loop-i-init
-loop-i-init c = (omega arith, omega arith, zero_start (search (rules, mapped_length)))
+pub loop-x-init : goal.loop-x-init
+loop-x-init c = record { wide = search (rules, mapped_length); yet = refl }
 
-pub loop-i-preserved : goal.loop-i-preserved
-loop-i-preserved c =
-    let v = c.loop-i.invariant.2 in
-    (omega arith, omega arith, zero_next v (omega arith) _ _ c.is_zero-z.ensures)
+pub loop-x-preserved : goal.loop-x-preserved
+loop-x-preserved c =
+    let v = c.loop-x.invariant in
+    record {
+      wide = v.wide;
+      yet =
+          ap₂ (λ (a b : Bool). a && b) v.yet c.is_zero-zero.ensures
+          ∙ sym (list_all_more is_zero _ c.loop-x.x-index _ (omega arith));
+    }
 
 pub returns : goal.returns
-returns c = zero_over c.loop-i.invariant.2 (omega arith) (omega arith)
+returns c =
+    let v = c.loop-x.invariant in
+    let q = c.args.q in
+    let rest = drop q.count q.slots in
+    let whole : take (length q.slots - q.count) rest ≡ rest = take_all _ rest (omega (arith, length-drop {A = Slot})) in
+    packed_is q c.loop-x.zero v.wide (omega arith)
+    (v.yet ∙ ap (every is_zero) (take_all _ _ (omega arith) ∙ whole))

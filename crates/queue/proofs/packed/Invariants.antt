@@ -1,11 +1,12 @@
--- What was found so far, and the places from i on, give the answer (invariant); places left to look at fall (measure).
-use Prim.Native.Nat.{◌≤◌, ◌-◌}
+-- The places that were looked at, behind those in use, are zero or not.
+use Rattle.std.proofs.Common.{◌≡◌, length, take}
+use Rattle.lists.specs.Lists.{every}
 use Rattle.kinds.specs.Limits.{most_entries}
-use Rattle.queue.proofs.Tests.{ZeroYet}
+use Rattle.queue.specs.Queues.{is_zero}
 use Rattle.queue.proofs.packed.Given as goal
 
-abbrev pub invariant-loop-i : goal.invariant-loop-i
-invariant-loop-i l = (l.q.count ≤ most_entries) × (l.i ≤ most_entries) × ZeroYet l.q l.zero l.i
-
-abbrev pub decreases-loop-i : goal.decreases-loop-i
-decreases-loop-i l = most_entries - l.i
+abbrev pub invariant-loop-x : goal.invariant-loop-x
+invariant-loop-x l = record {
+  wide : length l.fn.q.slots ≡ most_entries;
+  yet : l.zero ≡ every is_zero (take l.x-index l.x-items);
+}

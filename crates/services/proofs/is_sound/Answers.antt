@@ -26,18 +26,18 @@ scan-requires c =
           (arith, c.requires),
     )
 
-pub returns-then-not-scan : goal.returns-then-not-scan
-returns-then-not-scan c =
+pub returns-else-scan : goal.returns-else-scan
+returns-else-scan c =
     let o = offsets_read c.args.t.queue _ c.offsets_of-at.ensures in
-    test_area c.args.t _
+    c.if-scan.false ∙ test_area c.args.t _
     c.requires
-    (ap (scanned _ [] 0) (sym o) ∙ sym c.scan.ensures ∙ c.if-not-scan.true)
+    (ap (scanned _ [] 0) (sym o) ∙ sym c.scan.ensures ∙ c.if-scan.false)
 
 pub names_lawful-requires : goal.names_lawful-requires
 names_lawful-requires c =
     let s = sym c.sound.ensures
     ∙ c.if-not-sound.false in
-    let k = sym c.scan.ensures ∙ c.if-not-scan.false in (
+    let k = sym c.scan.ensures ∙ c.if-scan.true in (
       offsets_long c.args.t _ s c.offsets_of-at.ensures,
       omega (
         arith,
@@ -46,11 +46,11 @@ names_lawful-requires c =
       kept_fits _ _ k,
     )
 
-pub returns : goal.returns
-returns c =
+pub returns-then-scan : goal.returns-then-scan
+returns-then-scan c =
     let o = offsets_read c.args.t.queue _ c.offsets_of-at.ensures in
     let s = sym c.sound.ensures ∙ c.if-not-sound.false in
-    let k = sym c.scan.ensures ∙ c.if-not-scan.false in
+    let k = sym c.scan.ensures ∙ c.if-scan.true in
     c.names_lawful.ensures ∙ ap (λ (os : List ℕ). every lawful
     (names_of c.args.names.now os)) o
     ∙ test_names c.args.t _ c.requires s (ap (scanned _ [] 0) (sym o) ∙ k)

@@ -1,25 +1,25 @@
--- The insertion at the rank is the insertion in address order; the contracts of `rank` and `insert_at` do the rest.
-use mathlib.Core.Path.{◌≡◌, ap, ◌∙◌}
-use native.Mathlib.Omega.{arith}
-use borrow.Author.Rules.{rules}
-use lib.ListN.{length}
-use Rattle.lists.specs.Arrays.{mapped_length}
-use Rattle.kinds.specs.Limits.{most_areas}
+-- The place that is found is the rank, and an insertion at the rank is one in address order.
+use Rattle.std.proofs.Common.{◌≡◌, ap, ◌∙◌, arith, set, length, ◌+◌, List}
+use Rattle.std.specs.Option.{unwrap_or}
+use Rattle.lists.specs.Packed.{stored_count}
+use Rattle.kinds.specs.declared.areas.Area.{Area}
+use Rattle.storage.specs.Changes.{rank_in, inserted_at}
+use Rattle.storage.specs.Kept.{table}
 use Rattle.storage.specs.Stored.{stored_areas, areas_in}
-use Rattle.storage.specs.Changes.{inserted_at}
-use Rattle.storage.proofs.Growing.{length_live}
-use Rattle.storage.proofs.Ranks.{inserted_rank, rank_within}
+use Rattle.storage.proofs.Growing.{put_in}
+use Rattle.storage.proofs.Ranks.{inserted_rank, rank_place, rank_within}
 use Rattle.storage.proofs.insert.Goals as goal
-
-pub insert_at-requires : goal.insert_at-requires
-insert_at-requires c =
-    let a = c.args in
-    let h : length a.s.areas ≡ most_areas = search (rules, mapped_length) in
-    omega (arith, c.rank-at.ensures, rank_within a.a (areas_in a.s), length_live a.s h (omega arith))
 
 pub returns : goal.returns
 returns c =
-    let a = c.args in
-    c.insert_at.ensures
-    ∙ ap stored_areas
-    (ap (λ k. inserted_at k a.a (areas_in a.s)) c.rank-at.ensures ∙ inserted_rank a.a (areas_in a.s))
+    let s = c.args.s in
+    let a = c.args.a in
+    let l = areas_in s in
+    let i = c.unwrap_or-at.result in
+    let n : s.count ≡ length l = stored_count table l s c.requires.0.form in
+    let e : i ≡ rank_in a l =
+    c.unwrap_or-at.ensures ∙ ap (λ o. unwrap_or o s.count) c.above.ensures ∙ rank_place a l s.count n in
+    ap (λ (u : List Area). record { areas = set u i a; count = s.count + 1 }) c.copy_within.ensures.after
+    ∙ put_in s c.requires.0 c.requires.1 a i (omega (arith, rank_within a l))
+    ∙ ap (λ j. stored_areas (inserted_at j a l)) e
+    ∙ ap stored_areas (inserted_rank a l)

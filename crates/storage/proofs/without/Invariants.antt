@@ -1,8 +1,5 @@
--- What is stored so far is what stays of the first i areas (invariant); places left to look at fall (measure).
-use Prim.Native.Nat.{◌≤◌, ◌-◌}
-use mathlib.Core.Path.{◌≡◌}
-use mathlib.Core.Bool.{Bool, not}
-use lib.ListN.{length}
+-- What is stored so far is what stays of the areas looked at.
+use Rattle.std.proofs.Common.{not, Bool, length, ◌≤◌}
 use Rattle.lists.specs.Packed.{Swept}
 use Rattle.kinds.specs.Limits.{most_areas}
 use Rattle.kinds.specs.declared.areas.Area.{Area}
@@ -14,9 +11,5 @@ use Rattle.storage.proofs.without.Given as goal
 abbrev pub stays : Area → Area → Bool
 stays a b = not (same_area a b)
 
-abbrev pub invariant-loop-i : goal.invariant-loop-i
-invariant-loop-i l =
-    (l.i ≤ l.n) × (l.n ≤ most_areas) × (length l.s.areas ≡ most_areas) × Swept table (stays l.a) l.s.areas l.i l.r
-
-abbrev pub decreases-loop-i : goal.decreases-loop-i
-decreases-loop-i l = l.n - l.i
+abbrev pub invariant-loop-x : goal.invariant-loop-x
+invariant-loop-x l = (length l.x-items ≤ most_areas) × Swept table (stays l.a) l.x-items l.x-index l.r

@@ -1,10 +1,12 @@
 -- Each return cites the test of the subpool, the second also that of the owner.
-use borrow.Author.Tests.{ne_eqb}
-use Rattle.lists.specs.Pick.{chosen, on_false}
+use Rattle.lists.specs.Pick.{chosen}
+use Rattle.rules.specs.SoundAreas.{area_owner_good}
 use Rattle.between.proofs.owners.owner_good.Goals as goal
 
 pub returns-then-a-eq0 : goal.returns-then-a-eq0
+unfolding area_owner_good
 returns-then-a-eq0 c = search chosen depth 10
 
 pub returns : goal.returns
-returns c = on_false _ _ _ _ (ne_eqb _ _ c.if-a-eq0.false) c.live_by.ensures
+unfolding area_owner_good
+returns c = search chosen depth 10

@@ -1,4 +1,4 @@
--- Each return cites the test of the subpool, the second also the contract of the test for a live task.
+-- Each return cites the test of the subpool, the second also that of the owner.
 use Rattle.lists.specs.Pick.{chosen}
 use Rattle.rules.specs.Ending.{area_stays}
 use Rattle.between.proofs.owners.stays.Goals as goal
@@ -7,6 +7,6 @@ pub returns-then-a-eq0 : goal.returns-then-a-eq0
 unfolding area_stays
 returns-then-a-eq0 c = search chosen depth 10
 
-pub returns : goal.returns
+pub returns-else-a-eq0 : goal.returns-else-a-eq0
 unfolding area_stays
-returns c = search chosen depth 10
+returns-else-a-eq0 c = search chosen depth 10

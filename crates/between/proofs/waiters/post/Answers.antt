@@ -11,5 +11,5 @@ returns-then-old c = rw (← c.at-old.ensures, c.if-old.true)
 pub returns : goal.returns
 unfolding signalled pick
 returns c =
-    rw (← c.at-old.ensures, c.if-old.false, ← c.completed-x.ensures)
+    rw (← c.at-old.ensures, c.if-old.false, ← c.completed.ensures)
     (rw c.with_ecb-next.ensures at c.woken.ensures)

@@ -1,26 +1,16 @@
-use mathlib.Core.Path.{refl, sym, ◌∙◌}
-use Rattle.lists.specs.Arrays.{mapped_length}
-use Rattle.events.proofs.Listing.{shown, once_from, once_end}
-use borrow.Author.Rules.{rules}
-use native.Mathlib.Omega.{arith}
+use Rattle.std.proofs.Common.{sym, ap, ◌∙◌, eqb, map}
+use Rattle.lists.specs.Lists.{distinct}
+use Rattle.lists.specs.Keeping.{take_map}
+use Rattle.events.proofs.Listing.{number, once_more}
 use Rattle.events.proofs.ecb_list.all_distinct.Goals as goal
 
-pub loop-i-init : goal.loop-i-init
-loop-i-init c = (shown (search (rules, mapped_length)) c.listed-n.ensures, refl)
+pub loop-m-init : goal.loop-m-init
+loop-m-init c =
+    ap (distinct eqb) (take_map number c.args.l.count c.args.l.ecbs ∙ ap (map number) (sym c.listed-rest.ensures))
 
-pub returns-then-stands_behind : goal.returns-then-stands_behind
-returns-then-stands_behind c =
-    let l = c.loop-i in
-    let g = sym c.stands_behind.ensures ∙ c.if-stands_behind.true in
-    sym (l.invariant.1 ∙ once_from l.invariant.0 l.i (omega arith) _ g)
+pub returns-then-contains : goal.returns-then-contains
+returns-then-contains c =
+    sym (c.loop-m.invariant ∙ once_more _ _ c.in-Some.ensures.cases.0 c.if-contains.ensures.value)
 
-pub loop-i-preserved : goal.loop-i-preserved
-loop-i-preserved c =
-    let l = c.loop-i in
-    let g = sym c.stands_behind.ensures ∙ c.if-stands_behind.false in
-    (l.invariant.0, l.invariant.1 ∙ once_from l.invariant.0 l.i (omega arith) _ g)
-
-pub returns : goal.returns
-returns c =
-    let l = c.loop-i in
-    sym (l.invariant.1 ∙ once_end l.invariant.0 l.i (omega arith))
+pub loop-m-preserved : goal.loop-m-preserved
+loop-m-preserved c = c.loop-m.invariant ∙ once_more _ _ c.in-Some.ensures.cases.0 c.if-contains.ensures.value

@@ -1,41 +1,46 @@
-use Prim.Native.Nat.{ℕ}
-use mathlib.Core.Path.{ap, ◌∙◌}
-use mathlib.Core.List.{List}
-use Rattle.lists.specs.Lists.{map_at}
+use Rattle.std.proofs.Common.{◌≡◌, rules, arith, ℕ, List, sym, ap, ◌∙◌, map, take, take_all, length}
 use Rattle.lists.specs.Arrays.{mapped_length}
+use Rattle.lists.specs.Keeping.{take_map}
+use Rattle.lists.specs.Lists.{map_at}
+use Rattle.kinds.specs.Limits.{all_ecbs}
 use Rattle.rules.specs.Wait.{wait_set}
 use Rattle.ecbs.specs.Blocks.{ecb_table_of}
-use Rattle.events.proofs.Listing.{shown, whole}
-use Rattle.events.proofs.Waiting.{none_waited, waited_here, waited_past}
-use borrow.Author.Rules.{rules}
-use native.Mathlib.Omega.{arith}
+use Rattle.ecbs.specs.declared.EcbTable.{EcbTable}
+use Rattle.events.proofs.Listing.{number, next_shown}
+use Rattle.events.proofs.Waiting.{those, none_waited, waited_here, waited_past}
+use Rattle.events.proofs.ecb_list.wait_set.Goals.{then-k-lt-PLACES, else-k-lt-PLACES}
 use Rattle.events.proofs.ecb_list.wait_set.Goals as goal
 
-pub loop-i-init : goal.loop-i-init
-loop-i-init c =
-    let l = c.args.l in
-    (shown (search (rules, mapped_length)) c.listed-n.ensures, search (rules, mapped_length), none_waited _ l 0 _)
+pub loop-m-init : goal.loop-m-init
+loop-m-init c = none_waited c.args.c.0 c.args.l.count 0 c.args.e.ecbs
 
-pub loop-i-preserved-then-k-lt-PLACES : goal.loop-i-preserved-then-k-lt-PLACES
-loop-i-preserved-then-k-lt-PLACES c =
-    let b = c.before.before in
-    let d = b.before.before.before.before in
-    let l = d.loop-i in
-    let a = d.args in
-    let w = waited_here a.c.0 l.invariant.0 l.i (omega arith) a.e.ecbs _ l.invariant.2 l.invariant.1 _ in
-    (l.invariant.0, l.invariant.1, w b.if-k-lt-PLACES.true c.waited_by-y.ensures)
-
-pub loop-i-preserved : goal.loop-i-preserved
-loop-i-preserved c =
-    let l = c.loop-i in
-    let a = c.args in
-    let w = waited_past a.c.0 l.invariant.0 l.i (omega arith) a.e.ecbs _ l.invariant.2 l.invariant.1 in
-    (l.invariant.0, l.invariant.1, w c.if-k-lt-PLACES.false)
+pub loop-m-preserved : goal.loop-m-preserved
+loop-m-preserved c =
+    let es = c.args.e.ecbs in
+    let n = c.args.l.count in
+    let ms = c.listed-m-items.result.now in
+    let i = c.loop-m.m-index in
+    let long : length es ≡ all_ecbs = search (rules, mapped_length) in
+    let v = c.loop-m.invariant in
+    let same =
+    ap (λ (k : List ℕ). map_at (wait_set c.args.c.0 (those n k)) 0 es) (next_shown ms i _ c.loop-m-test.true) in
+    elim c.if-k-lt-PLACES.branch [
+      | then-k-lt-PLACES w ↦
+          ap (λ (r : EcbTable). r.ecbs) w.r-is
+          ∙ waited_here c.args.c.0 n (map number (take i ms)) _ es _ v long _ w.if-k-lt-PLACES.true w.waited_by.ensures
+          ∙ same
+      | else-k-lt-PLACES w ↦
+          ap (λ (r : EcbTable). r.ecbs) w.r-is
+          ∙ waited_past c.args.c.0 n (map number (take i ms)) _ es _ v long w.if-k-lt-PLACES.false
+          ∙ same
+    ]
 
 pub returns : goal.returns
 returns c =
-    let l = c.loop-i in
-    let a = c.args in
-    let w = whole l.invariant.0 l.i (omega arith) in
-    ap ecb_table_of (l.invariant.2
-    ∙ ap (λ (k : List ℕ). map_at (wait_set a.c.0 (record { count = a.l.count; ecbs = k })) 0 a.e.ecbs) w)
+    let l = c.args.l in
+    let ms = c.listed-m-items.result.now in
+    ap ecb_table_of
+    (c.loop-m.invariant
+    ∙ ap (λ (k : List ℕ). map_at (wait_set c.args.c.0 (those l.count k)) 0 c.args.e.ecbs)
+    (ap (map number) (take_all c.loop-m.m-index ms (omega arith) ∙ c.listed-m-items.ensures)
+    ∙ sym (take_map number l.count l.ecbs)))

@@ -1,37 +1,27 @@
-use mathlib.Core.Path.{sym, ◌∙◌}
-use native.Mathlib.Omega.{arith}
-use lib.ListN.{take}
-use Rattle.lists.specs.Every.{every_of}
-use Rattle.lists.specs.Loops.{all_start, all_stops, all_goes_on, all_over}
+-- Each of the offsets shows a name that lies within the bytes.
+use Rattle.std.proofs.Common.{rules, tests, ◌≡◌, true, take, sym, ap, ◌∙◌}
+use Rattle.std.proofs.lemmas.Iterator.{YieldsList-from_slice}
+use Rattle.std.proofs.lemmas.Iterator.Adapters.{serves_from_places}
+use Rattle.std.proofs.lemmas.Iterator.Search.{all_from_yields_List}
+use Rattle.std.proofs.lemmas.List.Folds.{list_all-map}
+use Rattle.lists.specs.Setting.{every_at_lem}
 use Rattle.rules.specs.Names.{lawful}
-use Rattle.namearea.specs.There.{front_at}
 use Rattle.namearea.specs.Spelling.{name_at}
 use Rattle.namearea.specs.Scanning.{fits_at}
-use Rattle.std.proofs.lemmas.Bool.{not_from_true, not_from_false}
 use Rattle.namearea.proofs.lawful.names_lawful.Goals as goal
 
-pub loop-i-init : goal.loop-i-init
-loop-i-init c = (omega arith, omega arith, all_start)
-
-pub lawful_at-requires : goal.lawful_at-requires
-lawful_at-requires c =
-    let f = front_at (fits_at c.args.bytes.now) c.args.ats.now c.args.n c.loop-i.i 0
-    c.requires.2 (omega arith) (omega arith) in
-    (omega arith, f)
-
-pub returns-then-not-lawful_at : goal.returns-then-not-lawful_at
-returns-then-not-lawful_at c =
-    let l = c.loop-i in
-    all_stops l.invariant.2 (omega arith) (omega arith) 0 c.lawful_at.ensures (not_from_false _ c.if-not-lawful_at.true)
-    ∙ sym (every_of (name_at c.args.bytes.now) lawful (take c.args.n c.args.ats.now))
-
-pub loop-i-preserved : goal.loop-i-preserved
-loop-i-preserved c =
-    let v = c.loop-i.invariant.2 in
-    let e = all_goes_on v (omega arith) (omega arith) 0 c.lawful_at.ensures (not_from_true _ c.if-not-lawful_at.false) in
-    (omega arith, omega arith, e)
+pub all-requires-clause-callable : goal.all-requires-clause-callable
+all-requires-clause-callable c =
+    let bytes = c.args.bytes.now in
+    let os = take c.args.n c.args.ats.now in
+    serves_from_places (YieldsList-from_slice os cc) (λ x q k. search (rules, tests))
+    (λ x k h e.
+    let f : fits_at bytes x.now ≡ true =
+    ap (fits_at bytes) e ∙ every_at_lem (fits_at bytes) os k x.now c.requires.2 h in
+    search rules)
 
 pub returns : goal.returns
 returns c =
-    all_over c.loop-i.invariant.2 (omega arith)
-    ∙ sym (every_of (name_at c.args.bytes.now) lawful (take c.args.n c.args.ats.now))
+    let os = take c.args.n c.args.ats.now in
+    all_from_yields_List _ _ _ _ c.all.ensures.ran (YieldsList-from_slice os cc) (λ x b q k. search (rules, tests))
+    ∙ sym (list_all-map lawful (name_at c.args.bytes.now) os)

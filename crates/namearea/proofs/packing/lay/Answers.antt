@@ -1,83 +1,45 @@
 -- An offset that was there gets what it got before; the name of another goes to the end of the names so far.
-use Prim.Native.Nat.{◌+◌, ◌-◌}
-use mathlib.Core.Path.{◌≡◌}
-use native.Mathlib.Omega.{arith}
-use lib.ListN.{get_or, length-take, length-drop}
-use Rattle.namearea.specs.Packing.{laid_seen, laid_fits, laid_long, laid_room, laid_new}
+use Rattle.std.proofs.Common.{subst, sym, ◌+◌, ◌-◌, ◌++◌, arith, length, get_or, take, drop, set}
+use Rattle.namearea.specs.There.{FirstOf}
+use Rattle.namearea.specs.Packing.{Laid, laid_seen, laid_long, laid_room, laid_new}
 use Rattle.namearea.proofs.packing.lay.Goals as goal
 
-pub returns-then-j-i : goal.returns-then-j-i
-returns-then-j-i c =
+pub returns-in-Some : goal.returns-in-Some
+returns-in-Some c =
     let p = c.requires in
-    laid_seen p.laid p.clear.0 p.clear.2 c.first_of-j.ensures c.if-j-i.true
-
-pub overflow_add-n : goal.overflow_add-n
-overflow_add-n c = omega (arith, laid_fits c.requires.laid c.requires.clear.0 c.requires.clear.2)
-
-pub bounds-old-from : goal.bounds-old-from
-bounds-old-from c =
-    omega (arith, laid_fits c.requires.laid c.requires.clear.0 c.requires.clear.2)
-
-pub overflow_cast-size : goal.overflow_cast-size
-overflow_cast-size c =
-    omega (arith, laid_fits c.requires.laid c.requires.clear.0 c.requires.clear.2)
-
-pub overflow_add-size : goal.overflow_add-size
-overflow_add-size c =
-    omega (arith, laid_fits c.requires.laid c.requires.clear.0 c.requires.clear.2)
+    let f = subst (FirstOf c.args.ats.now c.args.i (get_or c.args.ats.now c.args.i 0)) c.in-Some.is
+    c.first_of.ensures in
+    laid_seen p.laid p.clear.0 p.clear.2 f
 
 pub overflow_add-end : goal.overflow_add-end
-overflow_add-end c = omega (arith, laid_fits c.requires.laid c.requires.clear.0 c.requires.clear.2)
+overflow_add-end c =
+    let p = c.requires in
+    let f = subst (FirstOf c.args.ats.now c.args.i (get_or c.args.ats.now c.args.i 0)) c.in_default.is
+    c.first_of.ensures in
+    omega (arith, laid_room p.laid p.clear.0 p.clear.2 f)
 
-pub slice_bounds-put-count : goal.slice_bounds-put-count
-slice_bounds-put-count c =
-    omega (
-      arith,
-      laid_long c.requires.laid c.requires.clear.0 c.requires.clear.2,
-      laid_room c.requires.laid c.requires.clear.0 c.requires.clear.2 c.first_of-j.ensures c.if-j-i.false,
-    )
-
-pub slice_bounds-put-start : goal.slice_bounds-put-start
-slice_bounds-put-start c =
-    omega (
-      arith,
-      laid_long c.requires.laid c.requires.clear.0 c.requires.clear.2,
-      laid_room c.requires.laid c.requires.clear.0 c.requires.clear.2 c.first_of-j.ensures c.if-j-i.false,
-    )
-
-pub slice_bounds-put-end-2 : goal.slice_bounds-put-end-2
-slice_bounds-put-end-2 c =
-    omega (arith, laid_fits c.requires.laid c.requires.clear.0 c.requires.clear.2)
-
-pub put-requires : goal.put-requires
-put-requires c =
-    let i = laid_fits c.requires.laid c.requires.clear.0 c.requires.clear.2 in
-    let r = laid_room c.requires.laid c.requires.clear.0 c.requires.clear.2 c.first_of-j.ensures c.if-j-i.false in
-    let l = laid_long c.requires.laid c.requires.clear.0 c.requires.clear.2 in
-    simp (length-take, length-drop) (omega arith)
+pub slice_bounds-copy_from_slice-end : goal.slice_bounds-copy_from_slice-end
+slice_bounds-copy_from_slice-end c =
+    let p = c.requires in
+    let f = subst (FirstOf c.args.ats.now c.args.i (get_or c.args.ats.now c.args.i 0)) c.in_default.is
+    c.first_of.ensures in
+    omega (arith, laid_room p.laid p.clear.0 p.clear.2 f, laid_long p.laid p.clear.0 p.clear.2)
 
 pub overflow_cast-to : goal.overflow_cast-to
 overflow_cast-to c =
-    omega (
-      arith,
-      laid_long c.requires.laid c.requires.clear.0 c.requires.clear.2,
-      laid_room c.requires.laid c.requires.clear.0 c.requires.clear.2 c.first_of-j.ensures c.if-j-i.false,
-    )
-
-pub overflow_add-result : goal.overflow_add-result
-overflow_add-result c =
-    omega (
-      arith,
-      laid_long c.requires.laid c.requires.clear.0 c.requires.clear.2,
-      laid_room c.requires.laid c.requires.clear.0 c.requires.clear.2 c.first_of-j.ensures c.if-j-i.false,
-    )
+    let p = c.requires in
+    let f = subst (FirstOf c.args.ats.now c.args.i (get_or c.args.ats.now c.args.i 0)) c.in_default.is
+    c.first_of.ensures in
+    omega (arith, laid_room p.laid p.clear.0 p.clear.2 f)
 
 pub returns : goal.returns
 returns c =
     let p = c.requires in
-    let o = get_or c.args.ats.now c.args.i 0 in
-    let n = get_or c.args.old.now (o + 8) 0 in
-    let m : (o + (n + 9)) - o ≡ n + 9 = omega arith in
-    let q = c.put in
-    laid_new p.laid p.clear.0 p.clear.2 c.first_of-j.ensures c.if-j-i.false ((o + (n + 9)) - o) m
-    q.new.to q.ensures
+    let a = c.args in
+    let name = c.spelt_at-name in
+    let m = (a.at + length name.result.now) - a.at in
+    let f = subst (FirstOf a.ats.now a.i (get_or a.ats.now a.i 0)) c.in_default.is c.first_of.ensures in
+    subst (λ part. Laid 16384 a.old.now a.ats.now (a.i + 1) (set a.to.now a.i a.at)
+    (take a.at a.new.now ++ (part ++ drop m (drop a.at a.new.now))) (a.at + length name.result.now))
+    (sym c.copy_from_slice.ensures.after)
+    (laid_new p.laid p.clear.0 p.clear.2 f m name.result.now name.ensures.value (omega arith))

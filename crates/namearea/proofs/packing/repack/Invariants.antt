@@ -1,5 +1,4 @@
--- The names of the first i offsets are laid (invariant); offsets left fall (measure).
-use Prim.Native.Nat.{◌≤◌, ◌-◌}
+-- The names of the first i offsets are laid (invariant).
 use mathlib.Core.Path.{◌≡◌}
 use lib.ListN.{length}
 use Rattle.namearea.specs.Packing.{Laid}
@@ -7,7 +6,5 @@ use Rattle.namearea.proofs.packing.repack.Given as goal
 
 abbrev pub invariant-loop-i : goal.invariant-loop-i
 invariant-loop-i l =
-    (l.i ≤ length l.ats) × Laid 16384 l.old l.ats l.i l.to l.new l.at × (length l.to ≡ length l.initial.to) × (length l.new ≡ length l.initial.new)
-
-abbrev pub decreases-loop-i : goal.decreases-loop-i
-decreases-loop-i l = length l.ats - l.i
+    Laid 16384 l.old l.ats l.i l.to l.new l.at × (length l.to ≡ length l.initial.to)
+    × (length l.new ≡ length l.initial.new)

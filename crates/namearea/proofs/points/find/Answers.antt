@@ -1,77 +1,56 @@
-use native.Mathlib.Omega.{arith}
-use mathlib.Core.Path.{◌≡◌, refl, sym, ◌∙◌}
-use lib.ListN.{length}
+use Rattle.std.proofs.Common.{rules, Option, Some, Bool, ℕ, ◌≡◌, ◌<◌, ◌+◌, refl, subst, sym, ap, ◌∙◌, arith, length, get_or-take, length-take-le}
+use Rattle.std.specs.Bool.{then_some}
 use Rattle.kinds.specs.Limits.{longest_minor}
-use Rattle.namearea.specs.Pointing.{name_of}
-use Rattle.namearea.specs.Finding.{pass_start, pass_seen, pass_new, seen_out, new_fits, new_within}
-use Rattle.namearea.specs.Finding.{new_out, found, not_found}
-use borrow.Author.Rules.{rules}
+use Rattle.names.specs.Named.{resource_of}
+use Rattle.namearea.specs.Pointing.{name_of, place_in, shown_by}
+use Rattle.namearea.specs.Finding.{Passed, pass_start, pass_seen, pass_new, seen_out, new_out, found, not_found}
+use Rattle.namearea.proofs.points.find.Goals.{then-o-at+else-shows, else-o-at}
 use Rattle.namearea.proofs.points.find.Goals as goal
 
-pub loop-i-init : goal.loop-i-init
-loop-i-init c =
-    let m : length c.args.name.minor ≡ longest_minor = search rules in
-    (pass_start c.requires.in_use, search rules, omega arith, refl)
-
-pub offset_bounds-ats-i : goal.offset_bounds-ats-i
-offset_bounds-ats-i c = omega (arith, c.loop-i.invariant.0.used.few)
-
-pub bounds-ats-i : goal.bounds-ats-i
-bounds-ats-i c = omega (arith, c.loop-i.invariant.0.used.few)
-
-pub shows-requires : goal.shows-requires
-shows-requires c =
-    let v = c.loop-i.invariant in
-    let f = new_fits v.0 (omega arith) c.if-o-at.true in
-    record { bytes_len_bound = (v.0.used.room, f); major_len = (v.1, v.2) }
+pub loop-o-init : goal.loop-o-init
+loop-o-init c = (pass_start c.requires.in_use, refl)
 
 pub returns-then-shows : goal.returns-then-shows
 returns-then-shows c =
-    let v = c.loop-i.invariant in
-    let e = c.if-o-at.true in
-    let t = sym c.if-shows.true ∙ c.shows.ensures in
-    let f = found v.0 (omega arith) e c.args.name v.2 t in
-    record { at_value = f.0; there_value = f.1 }
+    let v = c.loop-o.invariant in
+    let a = c.args in
+    let i = c.loop-o.o-index in
+    let m : length a.name.minor ≡ longest_minor = search rules in
+    let k = length-take-le a.n a.ats.now v.0.used.few in
+    let h : i < a.n = omega arith in
+    let f = found v.0 h (sym (get_or-take a.n a.ats.now i 0 h) ∙ c.if-o-at.true) a.name (omega arith)
+    (sym c.if-shows.true ∙ c.shows.ensures) in
+    ap {B = Option ℕ} Some f.0
+    ∙ ap (λ (b : Bool). then_some b (place_in (shown_by a.ats.now a.n a.bytes.now) (resource_of a.name))) f.1
 
-pub overflow_add-m : goal.overflow_add-m
-overflow_add-m c =
-    let v = c.loop-i.invariant in
-    let e = c.if-o-at.true in
-    let f = new_within v.0 (omega arith) e in
-    omega (arith, v.0.used.room)
-
-pub bounds-bytes-at : goal.bounds-bytes-at
-bounds-bytes-at c =
-    let v = c.loop-i.invariant in
-    let e = c.if-o-at.true in
-    let f = new_within v.0 (omega arith) e in
-    omega arith
-
-pub overflow_add-at-then-o-at : goal.overflow_add-at-then-o-at
-overflow_add-at-then-o-at c =
-    let v = c.loop-i.invariant in
-    let e = c.if-o-at.true in
-    let f = new_within v.0 (omega arith) e in
-    omega (arith, v.0.used.room)
-
-pub loop-i-preserved-then-o-at : goal.loop-i-preserved-then-o-at
-loop-i-preserved-then-o-at c =
-    let v = c.loop-i.invariant in
-    let x = name_of c.args.name.major c.args.name.minor c.args.name.length in
-    let e = c.if-o-at.true in
-    let o = new_out v.0 (omega arith) e x v.3 (sym c.if-shows.false ∙ c.shows.ensures) in
-    (pass_new v.0 (omega arith) e, v.1, v.2, o)
-
-pub loop-i-preserved : goal.loop-i-preserved
-loop-i-preserved c =
-    let v = c.loop-i.invariant in
-    let x = name_of c.args.name.major c.args.name.minor c.args.name.length in
-    let d = c.if-o-at.false in
-    (pass_seen v.0 (omega arith) d, v.1, v.2, seen_out v.0 (omega arith) d x v.3)
+pub loop-o-preserved : goal.loop-o-preserved
+loop-o-preserved c =
+    let v = c.loop-o.invariant in
+    let a = c.args in
+    let i = c.loop-o.o-index in
+    let x = name_of a.name.major a.name.minor a.name.length in
+    let k = length-take-le a.n a.ats.now v.0.used.few in
+    let h : i < a.n = omega arith in
+    let e = get_or-take a.n a.ats.now i 0 h in
+    elim c.if-o-at.branch [
+      | then-o-at+else-shows w ↦ (
+        subst (λ (t : ℕ). Passed a.ats.now a.n a.bytes.now t (i + 1))
+            (sym (w.at-is ∙ ap (λ (t : ℕ). c.loop-o.at + t) w.spelt_at.ensures.size))
+            (pass_new v.0 h (sym e ∙ w.if-o-at.true)),
+        new_out v.0 h (sym e ∙ w.if-o-at.true) x v.1 (sym w.if-shows.false ∙ w.shows.ensures),
+      )
+      | else-o-at w ↦ (
+        subst (λ (t : ℕ). Passed a.ats.now a.n a.bytes.now t (i + 1)) (sym w.at-is)
+            (pass_seen v.0 h (λ q. w.if-o-at.false (e ∙ q))),
+        seen_out v.0 h (λ q. w.if-o-at.false (e ∙ q)) x v.1,
+      )
+    ]
 
 pub returns : goal.returns
 returns c =
-    let v = c.loop-i.invariant in
+    let v = c.loop-o.invariant in
     let a = c.args in
-    let f = not_found v.0 (omega (arith, v.0.within)) a.name v.2 v.3 in
-    record { at_value = f.0; there_value = f.1 }
+    let m : length a.name.minor ≡ longest_minor = search rules in
+    let k = length-take-le a.n a.ats.now v.0.used.few in
+    let f = not_found v.0 (omega (arith, v.0.within)) a.name (omega arith) v.1 in
+    ap (λ (b : Bool). then_some b (place_in (shown_by a.ats.now a.n a.bytes.now) (resource_of a.name))) f.1

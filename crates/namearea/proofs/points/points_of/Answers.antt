@@ -1,65 +1,71 @@
-use Prim.Native.Nat.{◌≤◌}
-use mathlib.Core.Path.{refl}
-use native.Mathlib.Omega.{arith}
-use borrow.Author.Rules.{rules}
-use lib.ListN.{get_or}
-use Rattle.lists.specs.Arrays.{within}
+use Rattle.std.proofs.Common.{rules, ◌≡◌, ◌<◌, refl, ap, ◌∙◌, arith, length, get_or-take, length-take-le}
 use Rattle.lists.specs.Tables.{padded}
 use Rattle.kinds.specs.Limits.{longest_list}
-use Rattle.kinds.specs.declared.names.Pointed.{Pointed}
-use Rattle.names.specs.Named.{names_in}
+use Rattle.kinds.specs.declared.names.Wanted.{Wanted}
+use Rattle.names.specs.Named.{wanted_name, names_in}
 use Rattle.names.proofs.Listed.{good_count}
-use Rattle.namearea.specs.Pointing.{no_wanted}
+use Rattle.namearea.specs.Pointing.{no_wanted, shown_by, place_of, stand_of}
 use Rattle.namearea.specs.Placing.{pointing_none, pointing_next, pointing_all, short, stand_low}
 use Rattle.namearea.proofs.points.points_of.Goals as goal
-
-pub names_end-from-requires : goal.names_end-from-requires
-names_end-from-requires c = c.requires.in_use
 
 pub loop-i-init : goal.loop-i-init
 unfolding padded
 loop-i-init c =
     let e = c.names_end-from.ensures in
-    let few : c.args.l.count ≤ longest_list = good_count (names_in c.args.l) c.requires.l_value in
-    pointing_none few (search (rules, within)) e.value (omega (arith, e.upper_bound, c.requires.in_use.room))
+    let few = good_count (names_in c.args.l) c.requires.l_value in
+    let n : length c.args.l.names ≡ longest_list = search rules in
+    pointing_none few (omega arith) e.value (omega (arith, e.upper_bound, c.requires.in_use.room))
 
-pub bounds-l-i : goal.bounds-l-i
-bounds-l-i c = omega (arith, c.loop-i.invariant.many)
-
-pub find-requires : goal.find-requires
-find-requires c =
-    record { in_use = c.requires.in_use; length_le_longest_minor = short c.loop-i.invariant (omega arith) c.requires.l_value no_wanted }
-
-pub settle-s-requires : goal.settle-s-requires
-settle-s-requires c =
+pub find-requires-clause-length_le_longest_minor : goal.find-requires-clause-length_le_longest_minor
+find-requires-clause-length_le_longest_minor c =
     let v = c.loop-i.invariant in
-    (omega (arith, v.near, v.few), short v (omega arith) c.requires.l_value no_wanted)
+    let l = c.args.l in
+    let k = length-take-le l.count l.names v.many in
+    let e = get_or-take l.count l.names c.loop-i.i no_wanted (omega arith) in
+    let s = short v (omega arith) c.requires.l_value no_wanted in
+    omega (arith, ap (λ (w : Wanted). w.name.length) e)
 
-pub overflow_cast-q : goal.overflow_cast-q
-overflow_cast-q c =
+pub settle-at-requires : goal.settle-at-requires
+settle-at-requires c =
     let v = c.loop-i.invariant in
-    let f = c.find in
-    let t = c.settle-s in
-    let w = stand_low v (omega arith) c.requires.l_value no_wanted f.result f.ensures.at_value f.ensures.there_value t.result
-    t.ensures in
+    let l = c.args.l in
+    let k = length-take-le l.count l.names v.many in
+    let e = get_or-take l.count l.names c.loop-i.i no_wanted (omega arith) in
+    let s = short v (omega arith) c.requires.l_value no_wanted in
+    (omega (arith, v.near, v.few), omega (arith, ap (λ (w : Wanted). w.name.length) e))
+
+pub overflow_cast-names : goal.overflow_cast-names
+overflow_cast-names c =
+    let v = c.loop-i.invariant in
+    let a = c.args in
+    let l = a.l in
+    let i = c.loop-i.i in
+    let k = length-take-le l.count l.names v.many in
+    let h : i < l.count = omega arith in
+    let e = get_or-take l.count l.names i no_wanted h in
+    let ns = shown_by a.ats.now a.n a.bytes.now in
+    let w = stand_low v h c.requires.l_value no_wanted c.find.result
+    (c.find.ensures ∙ ap (λ (w : Wanted). place_of ns (wanted_name w)) e) c.settle-at.result
+    (c.settle-at.ensures ∙ ap (λ (w : Wanted). stand_of c.find.result c.loop-i.end w.name.length) e) in
     omega (arith, v.few)
-
-pub bounds-names-i : goal.bounds-names-i
-bounds-names-i c =
-    let v = c.loop-i.invariant in
-    omega (arith, v.few, v.full)
 
 pub loop-i-preserved : goal.loop-i-preserved
 loop-i-preserved c =
-    let l = c.loop-i in
-    let f = c.find in
-    let t = c.settle-s in
-    let v : Pointed = record {
-      exclusive = (get_or c.args.l.names l.i no_wanted).exclusive;
-      name = record { 0 = t.result.at };
-    } in
-    pointing_next l.invariant (omega arith) c.requires.l_value no_wanted f.result f.ensures.at_value f.ensures.there_value t.result
-    t.ensures v refl refl
+    let v = c.loop-i.invariant in
+    let a = c.args in
+    let l = a.l in
+    let i = c.loop-i.i in
+    let k = length-take-le l.count l.names v.many in
+    let h : i < l.count = omega arith in
+    let e = get_or-take l.count l.names i no_wanted h in
+    let ns = shown_by a.ats.now a.n a.bytes.now in
+    pointing_next v h c.requires.l_value no_wanted c.find.result
+    (c.find.ensures ∙ ap (λ (w : Wanted). place_of ns (wanted_name w)) e) c.settle-at.result
+    (c.settle-at.ensures ∙ ap (λ (w : Wanted). stand_of c.find.result c.loop-i.end w.name.length) e) _
+    (ap (λ (w : Wanted). w.exclusive) e) refl
 
 pub returns : goal.returns
-returns c = pointing_all c.loop-i.invariant (omega (arith, c.loop-i.invariant.within))
+returns c =
+    let v = c.loop-i.invariant in
+    let k = length-take-le c.args.l.count c.args.l.names v.many in
+    pointing_all v (omega (arith, v.within))

@@ -1,79 +1,52 @@
 -- Names of one length are compared part by part.
-use mathlib.Core.Path.{sym}
-use Prim.Native.Nat.{◌+◌, ◌-◌}
-use native.Mathlib.Omega.{arith}
-use lib.Seq.{length-take-le}
-use borrow.Author.Tests.{not-true, not-false}
-use Rattle.namearea.specs.Scanning.{fits_parts}
-use Rattle.namearea.specs.Finding.{shows_longer, shows_other, shows_major}
-use Rattle.std.proofs.lemmas.Bool.{not_from_true, not_from_false}
+use Rattle.std.proofs.Common.{rules, ◌≡◌, ◌-◌, true, false, sym, ap, ◌∙◌, arith, take, drop, length, eqb-true, take_all, length-drop}
+use mathlib.Core.Bool.{and-true, and-false}
+use Rattle.lists.specs.Lists.{same_bytes}
+use Rattle.kinds.specs.Limits.{longest_minor}
+use Rattle.namearea.specs.Finding.{shows_longer, shows_parts}
+use Rattle.namearea.proofs.points.shows.Goals.{then-there-size, else-there-size}
 use Rattle.namearea.proofs.points.shows.Goals as goal
 
-pub overflow_add-n : goal.overflow_add-n
-overflow_add-n c =
-    let p = fits_parts c.args.bytes.now c.args.at c.requires.bytes_len_bound.1 in
-    omega arith
-
-pub bounds-bytes-at : goal.bounds-bytes-at
-bounds-bytes-at c =
-    let p = fits_parts c.args.bytes.now c.args.at c.requires.bytes_len_bound.1 in
-    omega arith
-
-pub overflow_cast-n : goal.overflow_cast-n
-overflow_cast-n c =
-    let p = fits_parts c.args.bytes.now c.args.at c.requires.bytes_len_bound.1 in
-    omega arith
-
-pub returns-then-n-size : goal.returns-then-n-size
-returns-then-n-size c =
+pub returns-then-same_bytes : goal.returns-then-same_bytes
+returns-then-same_bytes c =
     let a = c.args in
-    shows_longer a.bytes.now a.at a.major.now a.minor.now a.size c.requires.bytes_len_bound.1 c.requires.major_len.1
-    c.if-n-size.true
+    let n = a.name.now in
+    let s = c.spelt_at-there in
+    let there = s.result.now in
+    let all : take (length there - 9) (drop 9 there) ≡ drop 9 there =
+    take_all (length there - 9) (drop 9 there) (omega (arith, length-drop 9 there)) in
+    elim c.if-there-size.branch [
+      | then-there-size w ↦
+          let t : same_bytes (drop 9 there) (take n.length n.minor) ≡ true =
+          ap (λ l. same_bytes l (take n.length n.minor)) (sym all)
+          ∙ sym w.same_bytes.ensures ∙ sym w.value-is ∙ c.if-same_bytes.true in
+          c.same_bytes-then-same_bytes.ensures
+          ∙ sym (shows_parts a.bytes.now a.at n.major n.minor n.length c.requires.bytes_len_bound.1 there
+          s.ensures.value
+          ∙ rw (t, and-true))
+      | else-there-size w ↦ absurd (w.if-there-size.false (eqb-true _ _ (sym w.value-is ∙ c.if-same_bytes.true)))
+    ]
 
-pub overflow_add-mid : goal.overflow_add-mid
-overflow_add-mid c =
-    let p = fits_parts c.args.bytes.now c.args.at c.requires.bytes_len_bound.1 in
-    omega arith
-
-pub overflow_add-from : goal.overflow_add-from
-overflow_add-from c =
-    let p = fits_parts c.args.bytes.now c.args.at c.requires.bytes_len_bound.1 in
-    omega arith
-
-pub overflow_add-to : goal.overflow_add-to
-overflow_add-to c =
-    let p = fits_parts c.args.bytes.now c.args.at c.requires.bytes_len_bound.1 in
-    omega arith
-
-pub slice_bounds-same_bytes-end : goal.slice_bounds-same_bytes-end
-slice_bounds-same_bytes-end c =
-    let p = fits_parts c.args.bytes.now c.args.at c.requires.bytes_len_bound.1 in
-    omega arith
-
-pub slice_bounds-same_bytes-end-2 : goal.slice_bounds-same_bytes-end-2
-slice_bounds-same_bytes-end-2 c =
-    sym (length-take-le c.args.size c.args.minor.now c.requires.major_len.1)
-
-pub returns-then-not-same_bytes : goal.returns-then-not-same_bytes
-returns-then-not-same_bytes c =
+pub returns-else-same_bytes : goal.returns-else-same_bytes
+returns-else-same_bytes c =
     let a = c.args in
-    let b = c.same_bytes in
-    let e = c.if-n-size.false in
-    shows_other a.bytes.now a.at a.major.now a.minor.now a.size
-    (((a.at + 9) + a.size) - (a.at + 9)) b.result e (omega arith) b.ensures
-    (not-true b.result (not_from_false _ c.if-not-same_bytes.true))
-
-pub slice_bounds-same_bytes-end-3 : goal.slice_bounds-same_bytes-end-3
-slice_bounds-same_bytes-end-3 c =
-    let p = fits_parts c.args.bytes.now c.args.at c.requires.bytes_len_bound.1 in
-    omega arith
-
-pub returns : goal.returns
-returns c =
-    let a = c.args in
-    let b = c.same_bytes in
-    let r = c.same_bytes-2 in
-    let e = c.if-n-size.false in
-    shows_major a.bytes.now a.at a.major.now a.minor.now a.size
-    (((a.at + 9) + a.size) - (a.at + 9)) b.result e (omega arith) b.ensures
-    ((a.at + 8) - a.at) r.result (omega arith) r.ensures (not-false b.result (not_from_true _ c.if-not-same_bytes.false))
+    let n = a.name.now in
+    let s = c.spelt_at-there in
+    let there = s.result.now in
+    let all : take (length there - 9) (drop 9 there) ≡ drop 9 there =
+    take_all (length there - 9) (drop 9 there) (omega (arith, length-drop 9 there)) in
+    let m : length n.minor ≡ longest_minor = search rules in
+    c.if-same_bytes.false
+    ∙ elim c.if-there-size.branch [
+      | then-there-size w ↦
+          let t : same_bytes (drop 9 there) (take n.length n.minor) ≡ false =
+          ap (λ l. same_bytes l (take n.length n.minor)) (sym all)
+          ∙ sym w.same_bytes.ensures ∙ sym w.value-is ∙ c.if-same_bytes.false in
+          sym (shows_parts a.bytes.now a.at n.major n.minor n.length c.requires.bytes_len_bound.1 there
+          s.ensures.value
+          ∙ rw (t, and-false))
+      | else-there-size w ↦
+          shows_longer a.bytes.now a.at n.major n.minor n.length c.requires.bytes_len_bound.1
+          (omega arith)
+          (λ e. w.if-there-size.false (omega (arith, s.ensures.size)))
+    ]

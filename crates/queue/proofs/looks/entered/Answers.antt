@@ -1,41 +1,22 @@
-use native.Mathlib.Nat.{le_antisymm}
-use native.Mathlib.Omega.{arith}
-use borrow.Author.Rules.{rules}
-use Rattle.lists.specs.Loops.{goes_on}
-use Rattle.lists.specs.Arrays.{within, mapped_length}
-use Rattle.queue.proofs.Filled.{none_filled, ask_next}
-use Rattle.queue.proofs.Flagged.{flags_are, sought_start, sought_next, sought_end}
+use Rattle.std.proofs.Common.{rules, ◌≡◌, take, ◌∙◌}
+use Rattle.lists.specs.Lists.{some}
+use Rattle.lists.specs.Loops.{any_shown}
+use Rattle.names.specs.Pointers.{pointer, pointed_ask}
+use Rattle.rules.specs.Control.{is_for, has_entry}
+use Rattle.rules.specs.Names.{Ask}
+use Rattle.kinds.specs.declared.names.Pointed.{Pointed}
+use Rattle.kinds.specs.declared.names.Slot.{Slot}
+use Rattle.queue.specs.Queues.{entry_of, entries_in}
+use Rattle.queue.proofs.Flagged.{flags_are}
 use Rattle.queue.proofs.looks.entered.Goals as goal
 
-pub loop-i-init : goal.loop-i-init
-loop-i-init c = (none_filled _ _ _, search (rules, within, mapped_length))
-
-pub loop-j-init : goal.loop-j-init
-loop-j-init c = (sought_start _ _ _, omega arith)
-
-pub offset_bounds-q-j : goal.offset_bounds-q-j
-offset_bounds-q-j c = omega (arith, goes_on)
-
-pub bounds-q-j : goal.bounds-q-j
-bounds-q-j c = omega (arith, goes_on)
-
-pub overflow_add-j : goal.overflow_add-j
-overflow_add-j c = omega (arith, goes_on)
-
-pub loop-j-smaller : goal.loop-j-smaller
-loop-j-smaller c = omega (arith, goes_on)
-
-pub loop-j-preserved : goal.loop-j-preserved
-loop-j-preserved c =
-    let l = c.loop-j in
-    let t = c.loop-j-test.true in
-    (sought_next _ _ _ _ _ _ _ t (omega arith) c.is_for-found.ensures l.invariant.0, omega (arith, goes_on))
-
-pub loop-i-preserved : goal.loop-i-preserved
-loop-i-preserved c =
-    let s = c.loop-j in
-    let e = sought_end _ _ _ s.j s.found s.invariant.1 c.loop-j-test.false s.invariant.0 in
-    (ask_next _ _ c.args.l.names _ _ _ _ (omega arith) (omega arith) e c.loop-i.invariant.0, omega arith)
-
 pub returns : goal.returns
-returns c = search (rules, flags_are, le_antisymm)
+returns c =
+    let q = c.args.q in
+    let t = c.args.caller.0 in
+    let f = λ (a : Ask). has_entry (entries_in q) t a.name in
+    flags_are f c.args.l _ (c.flagged.ensures (λ (w : Pointed). f (pointed_ask w))
+    (λ w b h.
+    let own = is_for t (pointer w.name.0) in
+    let found : b ≡ some (λ (x : Slot). own (entry_of x)) (take q.count q.slots) = search rules in
+    found ∙ any_shown entry_of own q.count q.slots))

@@ -1,54 +1,50 @@
-use Prim.Native.Nat.{◌<◌}
-use mathlib.Core.Path.{◌≡◌}
-use native.Mathlib.Omega.{arith}
-use borrow.Author.Rules.{rules}
-use borrow.Author.Tests.{not-true}
-use lib.ListN.{length}
+use Rattle.std.proofs.Common.{rules, arith, ◌≡◌, ◌<◌, length, get_or, take, ap, ◌∙◌, length-take}
+use Rattle.std.proofs.lemmas.List.{get_or-take}
 use Rattle.lists.specs.Arrays.{mapped_length}
+use Rattle.lists.specs.Packed.{appended}
 use Rattle.kinds.specs.Limits.{most_entries}
-use Rattle.queue.proofs.Builds.{tailed_start, tailed_room, tailed_next, tailed_passed, tailed_end}
-use Rattle.std.proofs.lemmas.Bool.{not_from_false}
-use Rattle.queue.proofs.queuing.with_tail.Goals.{Then-not-skip-i, else-not-skip-i, then-not-skip-i}
+use Rattle.kinds.specs.declared.names.Pointed.{Pointed}
+use Rattle.queue.proofs.Views.{table}
+use Rattle.queue.proofs.Builds.{blank, slot_for, tailed_start, tailed_room, tailed_next, tailed_passed, tailed_end}
+use Rattle.queue.proofs.queuing.with_tail.Goals.{else-not-skip-i, then-not-skip-i}
 use Rattle.queue.proofs.queuing.with_tail.Goals as goal
-
--- where a name is not skipped there is room for its entry
-free : (c : Then-not-skip-i) → c.loop-i.r.count < most_entries
-free c =
-    let v = c.loop-i.invariant.4 in
-    tailed_room v (omega arith) (omega arith) (omega arith) _ (not-true _ (not_from_false _ c.if-not-skip-i.true))
 
 pub loop-i-init : goal.loop-i-init
 loop-i-init c =
-    let n : length c.args.q.slots ≡ most_entries = search (rules, mapped_length) in (
-      omega arith,
-      omega arith,
-      search (rules, mapped_length),
-      search (rules, mapped_length),
-      tailed_start c.requires.0 n c.requires.2,
-    )
+    let n : length c.args.q.slots ≡ most_entries = search (rules, mapped_length) in
+    record {
+      few = c.requires.1;
+      names = search (rules, mapped_length);
+      flags = search (rules, mapped_length);
+      tailed = tailed_start c.requires.0 n c.requires.2;
+    }
 
-pub offset_bounds-r-at : goal.offset_bounds-r-at
-offset_bounds-r-at c = omega (arith, free c.before.before)
-
-pub bounds-r-at : goal.bounds-r-at
-bounds-r-at c = free c.before.before
-
-pub overflow_add-r : goal.overflow_add-r
-overflow_add-r c = omega (arith, free c.before.before)
+pub push-requires : goal.push-requires
+push-requires c =
+    let v = c.loop-i.invariant in
+    let here : c.loop-i.i < c.args.l.count = omega (arith, length-take {A = Pointed}) in
+    tailed_room v.tailed here (omega arith) (omega arith) _ c.if-not-skip-i.true
 
 pub loop-i-preserved : goal.loop-i-preserved
 loop-i-preserved c =
-    let l = c.loop-i in
-    let v = l.invariant.4 in (
-      omega arith,
-      omega arith,
-      omega arith,
-      omega arith,
-      elim c.if-not-skip-i.branch [
-        | then-not-skip-i w ↦ tailed_next v (omega arith) (omega arith) (omega arith) _ w.if-not-skip-i.true _ w.r-is
-        | else-not-skip-i w ↦ tailed_passed v (omega arith) (omega arith) (omega arith) _ w.if-not-skip-i.false w.r-is
-      ],
-    )
+    let v = c.loop-i.invariant in
+    let l = c.args.l in
+    let i = c.loop-i.i in
+    let here : i < l.count = omega (arith, length-take {A = Pointed}) in
+    let asked : get_or (take l.count l.names) i blank ≡ get_or l.names i blank =
+    get_or-take l.count l.names i blank here in
+    record {
+      few = v.few;
+      names = v.names;
+      flags = v.flags;
+      tailed = elim c.if-not-skip-i.branch [
+        | then-not-skip-i w ↦ tailed_next v.tailed here (omega arith) (omega arith) _ w.if-not-skip-i.true blank
+            (w.r-is ∙ w.push.ensures ∙ ap (λ (x : Pointed). appended table c.loop-i.r (slot_for c.args.c.0 x)) asked)
+        | else-not-skip-i w ↦ tailed_passed v.tailed here (omega arith) (omega arith) _ w.if-not-skip-i.false w.r-is
+      ];
+    }
 
 pub returns : goal.returns
-returns c = tailed_end c.loop-i.invariant.4 (omega arith)
+returns c =
+    let over : c.loop-i.i ≡ c.args.l.count = omega (arith, length-take {A = Pointed}) in
+    tailed_end c.loop-i.invariant.tailed over

@@ -5,7 +5,7 @@ use mathlib.Core.Bool.{Bool, not}
 use Prim.Native.Nat.{◌≤◌}
 use lib.ListN.{length}
 use Rattle.kinds.specs.Limits.{longest_list}
-use Rattle.kinds.specs.declared.replies.Verdict.TheVariants.{Go}
+use Rattle.std.specs.Prelude.{Ok}
 use Rattle.names.specs.Pointers.{pointed_in}
 use Rattle.names.proofs.Listed.{good_count}
 use Rattle.rules.specs.Names.{names_of}
@@ -21,23 +21,21 @@ use Rattle.resources.specs.Looking.{deq_looks}
 use Rattle.resources.specs.declared.Found.{Found}
 use Rattle.resources.proofs.Changes.{deq_told, deq_zero, deq_written_lem}
 use Rattle.resources.proofs.Bodies.{served_stops, served_goes}
-use Rattle.std.proofs.lemmas.Bool.{not_from_true, not_from_false}
-use Rattle.resources.proofs.deq.served.Goals.{Else-not-goes_on, Start}
+use Rattle.resources.proofs.deq.served.Goals.{Else-is_err, Start}
 use Rattle.resources.proofs.deq.served.Goals as goal
 
 packed : (c : Start) → Packed c.args.t
 packed c = admitted_packed _ _ c.requires.0
 
 -- the tests go on, and the queue was looked at
-went : (c : Else-not-goes_on) → let k = c.before.before in
+went : (c : Else-is_err) → let k = c.before.before in
     let a = k.args in
     let q = entries_in a.t.queue in
-    (deq_verdict q a.caller a.ret (pointed_in a.l) (length a.codes.now) ≡ Go)
-    × (k.deq_found-found.result.looks ≡ deq_looks q a.caller.0 (pointed_in a.l))
+    (deq_verdict q a.caller a.ret (pointed_in a.l) (length a.codes.now) ≡ Ok tt)
+    × (k.deq_found-verdict.result.looks ≡ deq_looks q a.caller.0 (pointed_in a.l))
 went c =
     let g = c.before in
-    deq_told _ _ _ _ _ _ _ g.requires.1 g.deq_found-found.ensures g.goes_on.ensures
-    (not_from_true _ c.if-not-goes_on.false)
+    deq_told _ _ _ _ _ _ _ g.requires.1 g.deq_found-verdict.ensures g.is_err.ensures.value c.if-is_err.false
 
 few : (c : Start) → c.args.l.count ≤ longest_list
 few c = good_count _ c.requires.1
@@ -46,21 +44,21 @@ few c = good_count _ c.requires.1
 abbrev stays : Start → Entry → Bool
 stays c x = not (is_for_one c.args.caller.0 (names_of (pointed_in c.args.l)) x)
 
-pub deq_found-found-requires : goal.deq_found-found-requires
-deq_found-found-requires c = ((packed (goal.at.deq_found-found-requires c).Start).queue.room, c.requires.1)
+pub deq_found-verdict-requires : goal.deq_found-verdict-requires
+deq_found-verdict-requires c = ((packed (goal.at.deq_found-verdict-requires c).Start).queue.room, c.requires.1)
 
-pub returns-then-not-goes_on : goal.returns-then-not-goes_on
-returns-then-not-goes_on c =
+pub returns-then-is_err : goal.returns-then-is_err
+returns-then-is_err c =
     let a = c.args in
     let p =
     served_stops _ (deq_written (entries_in a.t.queue) a.caller a.ret (pointed_in a.l) a.codes.now) _ _
-    (ap (λ (x : Found). x.verdict) c.deq_found-found.ensures) c.goes_on.ensures (not_from_false _ c.if-not-goes_on.true)
+    (ap (λ (x : Found). x.verdict) c.deq_found-verdict.ensures) c.is_err.ensures.value c.if-is_err.true
     c.stays.ensures in
     record { result_value = p.0; codes_after = p.1 }
 
 pub write_due-requires : goal.write_due-requires
 write_due-requires c =
-    (few (goal.at.write_due-requires c).Start, rw c.deq_codes_due.ensures (deq_passed _ _ _ _ _ (went (goal.at.write_due-requires c).Else-not-goes_on).0).coded)
+    (few (goal.at.write_due-requires c).Start, rw c.deq_codes_due.ensures (deq_passed _ _ _ _ _ (went (goal.at.write_due-requires c).Else-is_err).0).coded)
 
 pub release-q-requires : goal.release-q-requires
 release-q-requires c =
@@ -76,7 +74,7 @@ returns c =
     let a = c.args in
     let es = entries_in a.t.queue in
     let l = pointed_in a.l in
-    let v = went (goal.at.returns c).Else-not-goes_on in
+    let v = went (goal.at.returns c).Else-is_err in
     let z = deq_zero es a.caller.0 a.ret l _ v.1 (deq_passed _ _ _ _ _ v.0).entered in
     let k = kept_wakes (step_of a.t) (admitted_running _ _ c.requires.0) (stays (goal.at.returns c).Start) in
     let m = live_stored _ (kept_pointing (stays (goal.at.returns c).Start) a.t.queue) in

@@ -15,7 +15,6 @@ use Rattle.queue.specs.Queues.{entry_of, entries_in}
 use Rattle.queue.proofs.Flagged.{asks_length}
 use Rattle.resources.specs.Looking.{enq_asked, enq_looks}
 use Rattle.resources.proofs.Judged.{go_is, found_stops, found_goes, enq_rest, enq_parts, weighed_is}
-use Rattle.std.proofs.lemmas.Bool.{not_from_true, not_from_false}
 use Rattle.resources.proofs.enq.enq_found.Goals.{Start}
 use Rattle.resources.proofs.enq.enq_found.Goals as goal
 
@@ -31,25 +30,25 @@ long c = search (rules, mapped_length)
 few : (c : Start) → c.args.l.count ≤ longest_list
 few c = good_count _ (enq_names c.args.ret _ c.requires.1)
 
-pub enq_asked-asked-requires : goal.enq_asked-asked-requires
-enq_asked-asked-requires c = few (goal.at.enq_asked-asked-requires c).Start
+pub asked-verdict-requires : goal.asked-verdict-requires
+asked-verdict-requires c = few (goal.at.asked-verdict-requires c).Start
 
-pub returns-then-not-goes_on : goal.returns-then-not-goes_on
-returns-then-not-goes_on c =
+pub returns-then-is_err : goal.returns-then-is_err
+returns-then-is_err c =
     let a = c.args in
     found_stops (enq_asked a.ret (pointed_in a.l) a.room)
     (enq_rest (entries_in a.q) a.caller.0 a.ret (pointed_in a.l))
     (enq_looks a.ret (entries_in a.q) a.caller.0 (pointed_in a.l)) _
     (enq_parts (entries_in a.q) a.caller a.ret a.l a.room c.requires.1) _ _ _
-    c.enq_asked-asked.ensures c.goes_on.ensures (not_from_false _ c.if-not-goes_on.true) c.unlooked.ensures
+    (rw c.enq_codes_due.ensures at c.asked-verdict.ensures) c.is_err.ensures.value c.if-is_err.true c.unlooked.ensures
 
 pub enq_looks-looks-requires : goal.enq_looks-looks-requires
 enq_looks-looks-requires c =
     (c.requires.0, few (goal.at.enq_looks-looks-requires c).Start)
 
-pub enq_weighed-verdict-requires : goal.enq_weighed-verdict-requires
-enq_weighed-verdict-requires c =
-    (few (goal.at.enq_weighed-verdict-requires c).Start, c.requires.0)
+pub enq_weighed-requires : goal.enq_weighed-requires
+enq_weighed-requires c =
+    (few (goal.at.enq_weighed-requires c).Start, c.requires.0)
 
 pub returns : goal.returns
 returns c =
@@ -61,4 +60,4 @@ returns c =
     (enq_rest (entries_in a.q) a.caller.0 a.ret (pointed_in a.l))
     (enq_looks a.ret (entries_in a.q) a.caller.0 (pointed_in a.l)) _
     (enq_parts (entries_in a.q) a.caller a.ret a.l a.room c.requires.1) _ _
-    c.enq_asked-asked.ensures (go_is _ _ c.goes_on.ensures (not_from_true _ c.if-not-goes_on.false)) (c.enq_weighed-verdict.ensures ∙ w) k
+    (rw c.enq_codes_due.ensures at c.asked-verdict.ensures) (go_is _ _ c.is_err.ensures.value c.if-is_err.false) (c.enq_weighed.ensures ∙ w) k

@@ -1,19 +1,14 @@
-use Rattle.rings.proofs.Ahead.{no_lines, lines_room, lines_next, lines_all}
-use native.Mathlib.Omega.{arith}
+use Rattle.std.proofs.Common.{arith}
+use Rattle.rings.proofs.Ahead.{lines_room, lines_next, lines_all}
 use Rattle.rings.proofs.held.stuck_list.Goals as goal
 
-pub loop-i-init : goal.loop-i-init
-loop-i-init c = (omega arith, no_lines c.empty-l.ensures)
+pub push_line-requires : goal.push_line-requires
+push_line-requires c =
+    let r = lines_room c.loop-t.invariant (omega arith) in
+    (c.requires, omega arith, omega arith, omega arith)
 
-pub with_line-l-requires : goal.with_line-l-requires
-with_line-l-requires c =
-    let p = c.requires in
-    let r = lines_room c.loop-i.invariant.1 (omega arith) in
-    (p.0, p.1, omega arith, omega arith, omega arith)
-
-pub loop-i-preserved : goal.loop-i-preserved
-loop-i-preserved c =
-    (omega arith, lines_next c.loop-i.invariant.1 (omega arith) c.with_line-l.ensures)
+pub loop-t-preserved : goal.loop-t-preserved
+loop-t-preserved c = lines_next c.loop-t.invariant (omega arith) (omega arith) c.push_line.ensures
 
 pub returns : goal.returns
-returns c = lines_all c.loop-i.invariant.1 (omega arith)
+returns c = lines_all c.before.loop-t.invariant (omega arith)

@@ -15,7 +15,7 @@ pub written-requires : goal.written-requires
 unfolding queues_list
 written-requires c =
     let q = c.args.q in
-    let l = c.queues_list-l in
+    let l = c.queues_list in
     let m = items_count queue_item (queues_of (entries_in q)) l.result l.ensures in
     let n = gathered_long queue_item 2 (λ x. refl) (queues_of (entries_in q)) in
     let k = queues_many (entries_in q) in
@@ -24,7 +24,7 @@ written-requires c =
 pub returns : goal.returns
 returns c =
     let w = c.written.ensures in
-    let l = c.queues_list-l in
+    let l = c.queues_list in
     let area = c.args.area.now in
     let e = items_of _ l.result l.ensures in
     record {

@@ -16,7 +16,7 @@ pub written-requires : goal.written-requires
 written-requires c =
     let m = c.stuck-on.result in
     let q = c.args.q in
-    let l = c.stuck_list-l in
+    let l = c.stuck_list in
     let v : Lines (mark_at m) (entries_in q) highest_task l.result = record { so_far = l.ensures } in
     let r = lines_room v (omega arith) in
     omega arith
@@ -24,7 +24,7 @@ written-requires c =
 pub returns : goal.returns
 returns c =
     let w = c.written.ensures in
-    let l = c.stuck_list-l in
+    let l = c.stuck_list in
     let m = c.stuck-on in
     let area = c.args.area.now in
     let q = entries_in c.args.q in

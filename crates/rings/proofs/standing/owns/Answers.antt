@@ -1,36 +1,19 @@
-use mathlib.Core.Path.{◌≡◌, ap, ◌∙◌}
-use mathlib.Core.Bool.{Bool, not, not-not}
-use native.Mathlib.Omega.{arith}
-use borrow.Author.Rules.{rules}
-use Rattle.lists.specs.Loops.{all_start, all_stops, all_goes_on, all_over}
-use Rattle.lists.specs.Arrays.{mapped_length}
-use Rattle.laws.specs.Control.{free}
+-- None of them bars the entry: the rules' test of control, entry by entry.
+use Rattle.std.proofs.Common.{not, rules, tests, sym, ◌∙◌, map}
+use Rattle.std.proofs.lemmas.Iterator.{YieldsList-from_slice}
+use Rattle.std.proofs.lemmas.Iterator.Search.{all_from_yields_List}
+use Rattle.lists.specs.Every.{every_of}
+use Rattle.kinds.specs.declared.names.Slot.{Slot}
+use Rattle.rules.specs.Rings.{bars}
+use Rattle.laws.specs.Control.{free, control_each}
 use Rattle.queue.specs.Queues.{entry_of}
-use Rattle.rings.proofs.ByName.{all_free}
 use Rattle.rings.proofs.standing.owns.Goals as goal
 
-twice : {a b : Bool} → a ≡ b → not (not a) ≡ b
-twice {b = b} e = ap (λ (t : Bool). not (not t)) e ∙ not-not b
-
-pub loop-j-init : goal.loop-j-init
-loop-j-init c = (omega arith, omega arith, search (rules, mapped_length), all_start)
-
-pub returns-then-bars : goal.returns-then-bars
-unfolding free
-returns-then-bars c =
-    let v = c.loop-j.invariant.3 in
-    let a = c.args in
-    all_stops v (omega arith) (omega arith) _ (ap not c.bars.ensures) (twice c.if-bars.true)
-    ∙ all_free a.q a.k (entry_of a.x) (omega arith)
-
-pub loop-j-preserved : goal.loop-j-preserved
-unfolding free
-loop-j-preserved c =
-    let v = c.loop-j.invariant.3 in
-    let e = all_goes_on v (omega arith) (omega arith) _ (ap not c.bars.ensures) (twice c.if-bars.false) in
-    (omega arith, omega arith, omega arith, e)
-
 pub returns : goal.returns
+unfolding free
 returns c =
-    let a = c.args in
-    all_over c.loop-j.invariant.3 (omega arith) ∙ all_free a.q a.k (entry_of a.x) (omega arith)
+    let e = entry_of c.args.x in
+    let es = c.args.before.now in
+    all_from_yields_List (λ (s : Slot). not (bars (entry_of s) e)) _ _ _ c.all.ensures.ran (YieldsList-from_slice es cc)
+    (λ x b q k. search (rules, tests))
+    ∙ sym (every_of entry_of (free e) es) ∙ sym (control_each (map entry_of es) e)

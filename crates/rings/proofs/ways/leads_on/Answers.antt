@@ -1,20 +1,17 @@
-use mathlib.Core.Path.{refl}
-use native.Mathlib.Omega.{arith}
-use borrow.Author.Rules.{rules}
-use Rattle.rings.specs.Ways.{leads_start, leads_over, leads_found, leads_further}
+use Rattle.std.proofs.Common.{◌≡◌, ℕ, ◌+◌, ◌-◌, ◌*◌, ◌∙◌, Bool, length, take, drop, ap, arith, rules, tests}
+use Rattle.std.proofs.lemmas.Iterator.{YieldsList-from_slice}
+use Rattle.std.proofs.lemmas.Iterator.Search.{any_from_yields_List}
+use Rattle.lists.specs.Lists.{some}
+use Rattle.rings.specs.Ways.{wide, all_ways, row_leads}
 use Rattle.rings.proofs.ways.leads_on.Goals as goal
 
-pub loop-n-init : goal.loop-n-init
-loop-n-init c = (omega arith, omega arith, search rules, leads_start)
-
-pub returns-then-m-row : goal.returns-then-m-row
-returns-then-m-row c =
-    leads_found c.loop-n.invariant.3 (omega arith) refl c.if-m-row.true
-
-pub loop-n-preserved : goal.loop-n-preserved
-loop-n-preserved c =
-    let v = c.loop-n.invariant.3 in
-    (omega arith, omega arith, omega arith, leads_further v (omega arith) refl c.if-m-row.false)
-
 pub returns : goal.returns
-returns c = leads_over c.loop-n.invariant.3 (omega arith)
+returns c =
+    let m = c.args.m.now in
+    let k = c.args.k in
+    let n : length m.of ≡ all_ways = search rules in
+    let w : k * wide + wide - k * wide ≡ wide = omega arith in
+    any_from_yields_List (λ (b : Bool). b) _ _ _ c.any.ensures.ran
+    (YieldsList-from_slice (take (k * wide + wide - k * wide) (drop (k * wide) m.of)) cc)
+    (λ x b q h. search (rules, tests))
+    ∙ ap (λ (j : ℕ). some (λ (b : Bool). b) (take j (drop (k * wide) m.of))) w ∙ row_leads m k n (omega arith)

@@ -16,10 +16,6 @@ use Rattle.services.proofs.Names.{offsets_read, offsets_full, points_long, area_
 use borrow.Author.Rules.{rules}
 use Rattle.services.proofs.naming.packed_anew.Goals as goal
 
-pub slice_bounds-from-end : goal.slice_bounds-from-end
-slice_bounds-from-end c = offsets_full c.args.t.queue _
-    c.requires.0 c.offsets_of-at.ensures
-
 pub slice_bounds-repack-end : goal.slice_bounds-repack-end
 slice_bounds-repack-end c =
     let q = c.args.t.queue in
@@ -27,10 +23,6 @@ slice_bounds-repack-end c =
     let h : q.count ≤ length at.of = offsets_full q at c.requires.0 c.offsets_of-at.ensures in
     let k : length (take q.count at.of) ≡ q.count = length-take-le q.count at.of h in
     search (rules, k)
-
-pub slice_bounds-to-end : goal.slice_bounds-to-end
-slice_bounds-to-end c = offsets_full c.args.t.queue _ c.requires.0
-    c.offsets_of-at.ensures
 
 pub slice_bounds-repack-end-3 : goal.slice_bounds-repack-end-3
 slice_bounds-repack-end-3 c =
@@ -47,11 +39,11 @@ repack-requires c =
       search rules,
       refl,
       ap (λ (a : NameArea). a.bytes)
-          c.empty-fresh.ensures ∙ area_none,
+          c.empty-names.ensures ∙ area_none,
     )
 
-pub with_offsets-q-requires : goal.with_offsets-q-requires
-with_offsets-q-requires c = c.requires.0
+pub with_offsets-requires : goal.with_offsets-requires
+with_offsets-requires c = c.requires.0
 
 pub returns : goal.returns
 unfolding repacked
@@ -72,6 +64,6 @@ returns c =
     ∙ take_at (points_for (names_of old.bytes (take q.count at.of))) _ q.count z ∙ ap points_for ns in
     λ i. record {
       all = (c.put_queue.ensures ∙ ap (put_queue c.args.t)
-          (c.with_offsets-q.ensures ∙ ap (λ (os : List ℕ). stored_entries (pointed_by os (entries_in q))) w)) i;
+          (c.with_offsets.ensures ∙ ap (λ (os : List ℕ). stored_entries (pointed_by os (entries_in q))) w)) i;
       names = record { bytes = (e.1 ∙ ap (area_for name_area) ns) i };
     }

@@ -4,8 +4,8 @@ use Rattle.queue.proofs.Views.{keep_packed}
 use Rattle.tables.proofs.Leaving.{left_queue, left_tasks, left_ecbs, left_areas}
 use Rattle.tables.proofs.ending.without.Goals as goal
 
-pub wake-woken-requires : goal.wake-woken-requires
-wake-woken-requires c =
+pub wake-requires : goal.wake-requires
+wake-requires c =
     let p = c.requires in
     (keep_packed (entry_stays c.end_tasks-left.result.places) _ _ p.0.queue c.entries_left-entries.ensures).room
 
@@ -18,7 +18,7 @@ returns c =
     let q = c.entries_left-entries.ensures in
     rw (
       left_queue a.args.t _ _ a.requires.1.0 a.requires.1.1 _ l _ q,
-      left_tasks a.args.t _ _ a.requires.1.0 a.requires.1.1 _ l _ _ q c.wake-woken.ensures,
-      left_ecbs a.args.t _ _ a.requires.1.0 a.requires.1.1 _ l _ c.wait_bits_left-blocks.ensures,
-      left_areas a.args.t _ _ a.requires.1.0 a.requires.1.1 _ l _ c.areas_left-areas.ensures,
+      left_tasks a.args.t _ _ a.requires.1.0 a.requires.1.1 _ l _ _ q c.wake.ensures,
+      left_ecbs a.args.t _ _ a.requires.1.0 a.requires.1.1 _ l _ c.wait_bits_left.ensures,
+      left_areas a.args.t _ _ a.requires.1.0 a.requires.1.1 _ l _ c.areas_left.ensures,
     )

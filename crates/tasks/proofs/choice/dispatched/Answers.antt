@@ -1,28 +1,15 @@
-use mathlib.Core.Path.{refl, sym, ◌∙◌}
-use borrow.Author.Rules.{rules}
-use Rattle.lists.specs.Arrays.{below, full}
-use Rattle.lists.specs.Numbered.{first_at_here, first_at_later, first_at_end}
-use Rattle.lists.specs.Pick.{test_held, test_failed}
+use Rattle.std.proofs.Common.{rules, tests, sym, ◌∙◌}
+use Rattle.std.proofs.lemmas.Iterator.{YieldsList-from_slice}
+use Rattle.std.proofs.lemmas.Iterator.Search.{position_from_yields_List}
+use Rattle.tasks.specs.Highest.{reaching}
+use Rattle.tasks.proofs.Found.{first_found}
 use Rattle.tasks.proofs.Reaching.{two_passes}
 use Rattle.tasks.proofs.choice.dispatched.Goals as goal
 
-pub loop-i-init : goal.loop-i-init
-loop-i-init c = refl
-
-pub bounds-f-i : goal.bounds-f-i
-bounds-f-i c = search (rules, below)
-
-pub returns-then-reaches : goal.returns-then-reaches
-returns-then-reaches c =
-    let h = test_held _ _ c.reaches.ensures c.if-reaches.true in
-    sym (two_passes _ _ c.highest_ready-h.ensures ∙ c.loop-i.invariant ∙ search (rules, first_at_here, below))
-
-pub loop-i-preserved : goal.loop-i-preserved
-loop-i-preserved c =
-    let h = test_failed _ _ c.reaches.ensures c.if-reaches.false in
-    c.loop-i.invariant ∙ search (rules, first_at_later, below)
-
 pub returns : goal.returns
 returns c =
-    let h = c.highest_ready-h in
-    sym (two_passes _ _ h.ensures ∙ c.loop-i.invariant ∙ search (rules, first_at_end, full))
+    let p = reaching c.highest_ready-h.result in
+    let e =
+    position_from_yields_List p _ _ c.position.result c.position.ensures.ran
+    (YieldsList-from_slice c.args.f.places cc) (λ x b q k. search (rules, tests)) in
+    c.numbered.ensures ∙ first_found p c.args.f.places _ e ∙ sym (two_passes _ _ c.highest_ready-h.ensures)

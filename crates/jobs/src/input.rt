@@ -119,6 +119,7 @@ fn rest_of_long(input: Input, block: &mut [u8]) -> Result<Option<Span>, Unread>
     requires { length block.old ≡ block_size }
     ensures { IfOk result (λ line. IfSome line Within) }
 {
+    // so that the loop is seen to end: no input has as many blocks
     for _ in 0..u64::MAX {
         let end = read_some(input, block)?;
         if end == 0 {

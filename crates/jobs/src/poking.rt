@@ -81,6 +81,7 @@ fn poked_place<const N: usize, R: Row<N>>(
     Some(())
 }
 
+// The two packed tables count their places anew; the queue and the storage have no count in common.
 fn poked_entry(q: &mut Queue, at: usize, field: usize, value: u32) -> Option<()> {
     poked_place(&mut q.slots, at, field, value)?;
     q.count = used(&q.slots);

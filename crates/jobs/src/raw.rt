@@ -1,11 +1,6 @@
 // A place of a table as raw fields: a dump shows them, and a poke overwrites one and goes back to the place.
 ghost use Rattle.std.specs.Prelude.{◌*◌, ◌<◌, ◌^◌};
 
-// The widest numbers that the tables keep in a byte and in two.
-pub(crate) const WIDEST_BYTE: u32 = u8::MAX as u32;
-
-pub(crate) const WIDEST_HALF: u32 = u16::MAX as u32;
-
 // The fields are numbers, in the order in which a line of the dump has them. What is generic in N requires that an
 // array of so many has a size.
 pub(crate) trait Row<const N: usize>: Copy {

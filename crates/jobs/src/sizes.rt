@@ -1,5 +1,5 @@
-// The sizes that are the script's own, each once; `specs/Sizes.antt` has them for contracts and proofs, in this order.
-// Those of the tables stand with the kinds that they bound.
+// The sizes that are the script's own, each once; `specs/Sizes.antt` has those that contracts and proofs name. Those of
+// the tables stand with the kinds that they bound.
 use kinds::Name;
 
 // What is read or written at once.

@@ -2,6 +2,7 @@
 use crate::raw::{Row, held_byte, held_flag};
 use kinds::{Condition, EcbNumber, Task, TaskNumber};
 
+// What a task is doing, by the numbers that a script has for it.
 const FREE: u32 = 0;
 
 const LIVE: u32 = 1;
@@ -17,8 +18,8 @@ impl Row<8> for Task {
             u32::from(self.mother.0),
             u32::from(self.limit),
             u32::from(self.dispatching),
-            has_ecb(e),
-            ecb_of(e),
+            u32::from(e.is_some()),
+            e.map_or(0, |n| u32::from(n.0)),
             u32::from(k.in_resource_wait()),
             need_of(k),
         ]
@@ -47,20 +48,6 @@ fn need_of(k: Condition) -> u32 {
     match k {
         Condition::EcbWait(n) => u32::from(n),
         _ => 0,
-    }
-}
-
-fn has_ecb(e: Option<EcbNumber>) -> u32 {
-    match e {
-        None => 0,
-        Some(_) => 1,
-    }
-}
-
-fn ecb_of(e: Option<EcbNumber>) -> u32 {
-    match e {
-        None => 0,
-        Some(n) => n.0 as u32,
     }
 }
 

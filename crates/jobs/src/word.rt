@@ -38,7 +38,7 @@ impl<'a> Words<'a> {
         ensures { IfSome result (λ n. n ≤ most) }
     {
         let n = self.number()? as usize;
-        if n <= most { Some(n) } else { None }
+        (n <= most).then_some(n)
     }
 
     pub(crate) fn byte(&mut self) -> Option<u8> {

@@ -2,11 +2,12 @@
 use Prim.Native.Nat.{ℕ, ◌+◌, ◌-◌, ◌%◌}
 use mathlib.Core.Path.{◌≡◌, refl}
 use mathlib.Core.Bool.{Bool, true, false, not, cond, ◌&&◌, ◌||◌}
-use mathlib.Core.List.{map}
+use mathlib.Core.List.{[], map}
 use lib.Dec.{eqb, leb, ltb}
 use lib.IntN.{pos, neg_ℤ}
 use lib.ListN.{replicate}
 use lib.Signed.{le_z, lt_z}
+use denote.Ref.{Bor}
 use Rattle.lists.specs.Lists.{every}
 use Rattle.kinds.specs.Beside.{no_names, no_ecbs}
 use Rattle.kinds.specs.Limits.{job_step_task, highest_task, highest_ecb, highest_address, region, doubleword}
@@ -16,6 +17,7 @@ use Rattle.kinds.specs.Ranges.{between, task_checked, ecb_checked}
 use Rattle.kinds.specs.Replies.{fault_number, number_of, besides_in, besides_of}
 use Rattle.kinds.specs.Tasks.{is_free, is_live, is_ready, in_resource_wait, in_ecb_wait, waits, with_condition}
 use Rattle.kinds.specs.declared.names.Wanted.{Wanted}
+use Rattle.kinds.specs.declared.names.NameOffset.{NameOffset}
 use Rattle.kinds.specs.declared.numbers.EcbNumber.{EcbNumber}
 use Rattle.std.specs.Prelude.{Option, Some, None}
 use Rattle.kinds.specs.declared.numbers.Address.{Address}
@@ -37,12 +39,16 @@ use Rattle.kinds.proofs.ecbs.EcbList.none.Reads as EcbList-none
 use Rattle.kinds.proofs.names.Name.minor_good.Reads as Name-minor_good
 use Rattle.kinds.proofs.names.NameList.count_good.Reads as NameList-count_good
 use Rattle.kinds.proofs.names.NameList.none.Reads as NameList-none
+use Rattle.kinds.proofs.names.NameOffsetPartialEq.eq.Reads as NameOffsetPartialEq-eq
 use Rattle.kinds.proofs.numbers.TaskNumber.is_good.Reads as TaskNumber-is_good
 use Rattle.kinds.proofs.numbers.TaskNumber.new.Reads as TaskNumber-new
+use Rattle.kinds.proofs.numbers.TaskNumberPartialEq.eq.Reads as TaskNumberPartialEq-eq
 use Rattle.kinds.proofs.numbers.EcbNumber.is_good.Reads as EcbNumber-is_good
 use Rattle.kinds.proofs.numbers.EcbNumber.new.Reads as EcbNumber-new
+use Rattle.kinds.proofs.numbers.EcbNumberPartialEq.eq.Reads as EcbNumberPartialEq-eq
 use Rattle.kinds.proofs.numbers.Address.is_good.Reads as Address-is_good
 use Rattle.kinds.proofs.numbers.Address.new.Reads as Address-new
+use Rattle.kinds.proofs.numbers.AddressPartialEq.eq.Reads as AddressPartialEq-eq
 use Rattle.kinds.proofs.replies.Fault.number.Reads as Fault-number
 use Rattle.kinds.proofs.replies.Reply.number.Reads as Reply-number
 use Rattle.kinds.proofs.replies.Reply.besides.Reads as Reply-besides
@@ -57,12 +63,13 @@ use Rattle.kinds.proofs.tasks.Task.with_condition.Reads as Task-with_condition
 use Rattle.kinds.proofs.tasks.Task.priority_good.Reads as Task-priority_good
 use Rattle.kinds.proofs.tasks.Task.dpmod_good.Reads as Task-dpmod_good
 use Rattle.kinds.proofs.tasks.Task.code_good.Reads as Task-code_good
-use Rattle.impostors.specs.Fitting.{◌⊗◌, fits-Address, fits-Condition, fits-EcbNumber, fits-Fault, fits-Reply}
-use Rattle.impostors.specs.Fitting.{fits-Task, fits-TaskNumber, fits_end, fits_i16, fits_u16, fits_u32, fits_u8}
+use Rattle.impostors.specs.Fitting.{◌⊗◌, fits-Address, fits-Condition, fits-EcbNumber, fits-Fault, fits-NameOffset}
+use Rattle.impostors.specs.Fitting.{fits-Reply, fits-Task, fits-TaskNumber, fits_end, fits_i16, fits_lent_one}
+use Rattle.impostors.specs.Fitting.{fits_u16, fits_u32, fits_u8}
 use Rattle.impostors.specs.Opened.{tables_open}
 use Rattle.impostors.specs.Samples.{task, ecb}
 use Rattle.impostors.specs.Wrong.{RuledOut, wrong_at}
-use Rattle.impostors.specs.Parts.{address}
+use Rattle.impostors.specs.Parts.{lent, address}
 
 -- A TEST that says yes of one thing given and has to say no, or no and has to say yes
 module _ {X : Type 0} {E : Unit {0} → Type 0} {T d f : (k : Unit {0}) → X × Unit {0} → Bool} (x : X)
@@ -337,6 +344,89 @@ pub Address-new_one_above_passes : RuledOut (λ k. fits_u32 ⊗ fits_end) Addres
     (λ k a. address_if (λ n. leb n region) a.0)
 unfolding tables_open
 Address-new_one_above_passes = wrong_at tt (131072, tt) refl tt is_address refl refl
+
+-- THE SAME NUMBER, which is asked of two that are lent
+
+abbrev Two : Type 0 → Type 0
+Two A = Bor A × (Bor A × Unit {0})
+
+abbrev fits_two : {A : Type 0} → (A → Bool) → Two A → Bool
+fits_two p = fits_lent_one p ⊗ fits_lent_one p ⊗ fits_end
+
+abbrev two : {A : Type 0} → A → A → Two A
+two x y = (lent x, (lent y, tt))
+
+-- any two tasks are the same
+pub TaskNumberPartialEq-eq_any_two :
+    RuledOut (λ k. fits_two fits-TaskNumber) TaskNumberPartialEq-eq.Pre TaskNumberPartialEq-eq.Post
+    (λ k a. true)
+TaskNumberPartialEq-eq_any_two = wrong_at ([], ([], tt)) (two (task 1) (task 2)) refl tt (λ b. b) refl refl
+
+-- no two are the same, not even a task and itself
+pub TaskNumberPartialEq-eq_never :
+    RuledOut (λ k. fits_two fits-TaskNumber) TaskNumberPartialEq-eq.Pre TaskNumberPartialEq-eq.Post
+    (λ k a. false)
+TaskNumberPartialEq-eq_never = wrong_at ([], ([], tt)) (two (task 1) (task 1)) refl tt not refl refl
+
+-- only the lower five bits are compared: task 32 is 0, which stands where there is no task
+pub TaskNumberPartialEq-eq_lower_five_bits :
+    RuledOut (λ k. fits_two fits-TaskNumber) TaskNumberPartialEq-eq.Pre TaskNumberPartialEq-eq.Post
+    (λ k a. eqb (a.0.now.0 % 32) (a.1.0.now.0 % 32))
+TaskNumberPartialEq-eq_lower_five_bits = wrong_at ([], ([], tt)) (two (task 0) (task 32)) refl tt (λ b. b) refl refl
+
+-- only the lower five bits are compared: ECB 32 is ECB 0
+pub EcbNumberPartialEq-eq_lower_five_bits :
+    RuledOut (λ k. fits_two fits-EcbNumber) EcbNumberPartialEq-eq.Pre EcbNumberPartialEq-eq.Post
+    (λ k a. eqb (a.0.now.0 % 32) (a.1.0.now.0 % 32))
+EcbNumberPartialEq-eq_lower_five_bits = wrong_at ([], ([], tt)) (two (ecb 0) (ecb 32)) refl tt (λ b. b) refl refl
+
+-- 0 stands for no ECB, as it does for no task: ECB 0 is not the same as itself
+pub EcbNumberPartialEq-eq_zero_is_none :
+    RuledOut (λ k. fits_two fits-EcbNumber) EcbNumberPartialEq-eq.Pre EcbNumberPartialEq-eq.Post
+    (λ k a. not (eqb a.0.now.0 0) && eqb a.0.now.0 a.1.0.now.0)
+EcbNumberPartialEq-eq_zero_is_none = wrong_at ([], ([], tt)) (two (ecb 0) (ecb 0)) refl tt not refl refl
+
+-- only the last byte is compared: 256 is 0
+pub AddressPartialEq-eq_cut_to_a_byte :
+    RuledOut (λ k. fits_two fits-Address) AddressPartialEq-eq.Pre AddressPartialEq-eq.Post
+    (λ k a. eqb (a.0.now.0 % 256) (a.1.0.now.0 % 256))
+AddressPartialEq-eq_cut_to_a_byte = wrong_at ([], ([], tt)) (two (address 0) (address 256)) refl tt (λ b. b) refl refl
+
+-- only the last two bytes are compared, too few for the region: 65,536 is 0
+pub AddressPartialEq-eq_cut_to_two_bytes :
+    RuledOut (λ k. fits_two fits-Address) AddressPartialEq-eq.Pre AddressPartialEq-eq.Post
+    (λ k a. eqb (a.0.now.0 % 65536) (a.1.0.now.0 % 65536))
+AddressPartialEq-eq_cut_to_two_bytes =
+    wrong_at ([], ([], tt)) (two (address 0) (address 65536)) refl tt (λ b. b) refl refl
+
+-- 0 stands for no address: address 0 is not the same as itself
+pub AddressPartialEq-eq_zero_is_none :
+    RuledOut (λ k. fits_two fits-Address) AddressPartialEq-eq.Pre AddressPartialEq-eq.Post
+    (λ k a. not (eqb a.0.now.0 0) && eqb a.0.now.0 a.1.0.now.0)
+AddressPartialEq-eq_zero_is_none = wrong_at ([], ([], tt)) (two (address 0) (address 0)) refl tt not refl refl
+
+abbrev offset : ℕ → NameOffset
+offset n = record { 0 = n }
+
+-- only the last byte is compared: 256 is 0
+pub NameOffsetPartialEq-eq_cut_to_a_byte :
+    RuledOut (λ k. fits_two fits-NameOffset) NameOffsetPartialEq-eq.Pre NameOffsetPartialEq-eq.Post
+    (λ k a. eqb (a.0.now.0 % 256) (a.1.0.now.0 % 256))
+NameOffsetPartialEq-eq_cut_to_a_byte =
+    wrong_at ([], ([], tt)) (two (offset 0) (offset 256)) refl tt (λ b. b) refl refl
+
+-- only whether each is 0 is compared: 10 and 20 are the same
+pub NameOffsetPartialEq-eq_only_whether_0 :
+    RuledOut (λ k. fits_two fits-NameOffset) NameOffsetPartialEq-eq.Pre NameOffsetPartialEq-eq.Post
+    (λ k a. cond (eqb a.0.now.0 0) (eqb a.1.0.now.0 0) (not (eqb a.1.0.now.0 0)))
+NameOffsetPartialEq-eq_only_whether_0 =
+    wrong_at ([], ([], tt)) (two (offset 10) (offset 20)) refl tt (λ b. b) refl refl
+
+-- 0 stands for no name: the first name is not the same as itself
+pub NameOffsetPartialEq-eq_zero_is_none :
+    RuledOut (λ k. fits_two fits-NameOffset) NameOffsetPartialEq-eq.Pre NameOffsetPartialEq-eq.Post
+    (λ k a. not (eqb a.0.now.0 0) && eqb a.0.now.0 a.1.0.now.0)
+NameOffsetPartialEq-eq_zero_is_none = wrong_at ([], ([], tt)) (two (offset 0) (offset 0)) refl tt not refl refl
 
 -- REPLIES
 

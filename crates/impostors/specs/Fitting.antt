@@ -84,6 +84,10 @@ fits_offsets r = every fits_u16 r.now
 abbrev pub fits_mut_offsets : MutBor (List ℕ) → Bool
 fits_mut_offsets r = every fits_u16 r.now
 
+-- one of a kind that is lent, to be read
+abbrev pub fits_lent_one : {A : Type 0} → (A → Bool) → Bor A → Bool
+fits_lent_one p r = p r.now
+
 -- KINDS
 
 abbrev pub fits-TaskNumber : TaskNumber → Bool

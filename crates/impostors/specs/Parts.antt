@@ -36,9 +36,9 @@ use Rattle.ecbs.specs.Blocks.{ecb_table_of}
 use Rattle.ecbs.specs.declared.EcbTable.{EcbTable}
 use Rattle.impostors.specs.Samples.{task, ecb}
 
--- bytes that are lent, to be read and to be written
-abbrev pub lent : List ℕ → Bor (List ℕ)
-lent l = record { ref_ptr = (0, 0); now = l }
+-- what is lent to be read, and bytes that are lent to be written
+abbrev pub lent : {A : Type 0} → A → Bor A
+lent x = record { ref_ptr = (0, 0); now = x }
 
 abbrev pub mut_lent : List ℕ → MutBor (List ℕ)
 mut_lent l = record { ref_ptr = (0, 0); ghost_name = 0; now = l }

@@ -1,4 +1,7 @@
 // The lists of a line, which stand beside its request: the words that are left.
+ghost use Rattle.std.specs.Prelude.{◌≤◌, IfSome};
+ghost use Rattle.jobs.specs.Sizes.{most_listed};
+
 use crate::name;
 use crate::sizes::MOST_LISTED;
 use crate::word::Words;
@@ -12,6 +15,7 @@ pub(crate) fn read<T: Copy, F: Fn(&[u8]) -> Option<T>>(
     read: F,
 ) -> Option<u32>
     requires { F.IsAlwaysCallable read }
+    ensures { IfSome result (λ n. n ≤ most_listed) }
 {
     for count in 0..MOST_LISTED {
         let Some(word) = words.word() else {

@@ -1,5 +1,5 @@
 // What is answered: the line of a request, and the lines of a dump.
-ghost use Rattle.std.specs.Prelude.{◌+◌, ◌*◌, ◌<◌, ◌^◌, length};
+ghost use Rattle.std.specs.Prelude.{◌≡◌, ◌+◌, ◌*◌, ◌<◌, ◌^◌, length, OnOk};
 
 use crate::raw::{Row, is_used};
 use crate::text::Out;
@@ -12,7 +12,10 @@ use std::fmt::Write;
 pub(crate) const UNWRITTEN: u8 = 0xee;
 
 // `NUMBER BESIDES`, and what was written of the codes area.
-pub(crate) fn answer(reply: Reply, codes: &[u8], out: &mut Out) -> fmt::Result {
+#[tactic(auto, using(crate::proofs::Writes::none_failed))]
+pub(crate) fn answer(reply: Reply, codes: &[u8], out: &mut Out) -> fmt::Result
+    ensures { OnOk result (out.new.written ≡ out.old.written) }
+{
     write!(out, "{} {}", reply.number(), reply.besides())?;
     if codes.iter().any(|byte| *byte != UNWRITTEN) {
         out.write_str(" codes=")?;
@@ -22,7 +25,10 @@ pub(crate) fn answer(reply: Reply, codes: &[u8], out: &mut Out) -> fmt::Result {
 }
 
 // Task numbers begin with 1.
-pub(crate) fn dump(t: &Tables, out: &mut Out) -> fmt::Result {
+#[tactic(auto, using(crate::proofs::Writes::none_failed))]
+pub(crate) fn dump(t: &Tables, out: &mut Out) -> fmt::Result
+    ensures { OnOk result (out.new.written ≡ out.old.written) }
+{
     let a = &t.all;
     writeln!(out, "step {} {}", u32::from(a.over), a.code)?;
     put_rows("task", 1, &a.tasks.places, out)?;
@@ -34,6 +40,7 @@ pub(crate) fn dump(t: &Tables, out: &mut Out) -> fmt::Result {
 }
 
 // A line for each place that has a field not zero: a word, the place's number and the raw fields, one space between.
+#[tactic(auto, using(crate::proofs::Writes::none_failed))]
 fn put_rows<const N: usize, R: Row<N>>(
     word: &str,
     first: usize,
@@ -42,6 +49,7 @@ fn put_rows<const N: usize, R: Row<N>>(
 ) -> fmt::Result
     requires numbered { first + length places.now < 2 ^ 64 }
     requires sized { N * 4 < 2 ^ 63 }
+    ensures { OnOk result (out.new.written ≡ out.old.written) }
 {
     for (i, place) in places.iter().enumerate() {
         if is_used(place) {
@@ -56,7 +64,10 @@ fn put_rows<const N: usize, R: Row<N>>(
 }
 
 // The name area up to its last byte that is not zero.
-fn put_names(names: &[u8], out: &mut Out) -> fmt::Result {
+#[tactic(auto, using(crate::proofs::Writes::none_failed))]
+fn put_names(names: &[u8], out: &mut Out) -> fmt::Result
+    ensures { OnOk result (out.new.written ≡ out.old.written) }
+{
     match names.iter().rposition(|byte| *byte != 0) {
         Some(last) => {
             out.write_str("names ")?;

@@ -1,11 +1,25 @@
 // Names of a line: the digits of the major part, a point, those of the minor part, and a slash and a length where it is
 // not that of the bytes given.
+ghost use Rattle.std.specs.Prelude.{◌≡◌, ◌≤◌, length, IfSome};
+ghost use Rattle.jobs.specs.Sizes.{highest_length, major_digits};
+
 use crate::sizes::{HIGHEST_LENGTH, MAJOR_DIGITS, MOST_GIVEN};
 use crate::{hex, number, word};
 use kinds::Name;
 
+// The major part that these digits make.
+fn major_of(digits: &[u8]) -> Option<[u8; Name::MAJOR]>
+    requires { length digits.now ≡ major_digits }
+{
+    let mut bytes = [0u8; Name::MAJOR];
+    hex::read(digits, &mut bytes)?;
+    Some(bytes)
+}
+
 // Of the minor part the bytes that have room are kept, up to its length. Missing ones are zero.
-pub(crate) fn read(word: &[u8]) -> Option<Name> {
+pub(crate) fn read(word: &[u8]) -> Option<Name>
+    ensures { IfSome result (λ name. name.length ≤ highest_length) }
+{
     let (digits, [b'.', rest @ ..]) = word.split_at_checked(MAJOR_DIGITS)? else {
         return None;
     };
@@ -20,8 +34,7 @@ pub(crate) fn read(word: &[u8]) -> Option<Name> {
     if HIGHEST_LENGTH < length {
         return None;
     }
-    let mut major = [0u8; Name::MAJOR];
-    hex::read(digits, &mut major)?;
+    let major = major_of(digits)?;
     let mut minor = [0u8; Name::LONGEST];
     hex::read(given, &mut minor[..length.min(Name::LONGEST)])?;
     Some(Name {

@@ -1,10 +1,21 @@
 // Decimal numbers of a line.
+ghost use Rattle.std.specs.Prelude.{◌≡◌, length};
+ghost use Rattle.kinds.specs.Ranges.{between};
+ghost use Rattle.jobs.specs.Sizes.{most_digits};
+
 use crate::sizes::MOST_DIGITS;
 use kinds::EcbNumber;
 
+// As many digits as a number has.
+fn has_length(word: &[u8]) -> bool
+    ensures { result ≡ between 1 most_digits (length word.now) }
+{
+    !word.is_empty() && word.len() <= MOST_DIGITS
+}
+
 // 1 to 10 digits, and not above the highest number.
 pub(crate) fn read(word: &[u8]) -> Option<u32> {
-    if word.is_empty() || MOST_DIGITS < word.len() {
+    if !has_length(word) {
         return None;
     }
     word.iter().try_fold(0u32, |value, byte| {

@@ -2,6 +2,8 @@
 // to it, and a line is put for each. An item gives the place of an entry in the queue, which stays as it is, and the
 // entry where its name lies. A place that the queue does not have, which no service writes, has no line; a name that
 // the area does not have, which no sound tables show, has no bytes.
+ghost use Rattle.std.specs.Prelude.{◌≡◌, OnOk};
+
 use crate::listing::{UNWRITTEN, answer};
 use crate::sizes::MOST_ROOM;
 use crate::text::Out;
@@ -31,7 +33,9 @@ fn name_at(names: &[u8], name: NameOffset) -> Option<(&[u8], &[u8])> {
 }
 
 // A space and the name that lies there.
-fn put_name(names: &[u8], name: NameOffset, out: &mut Out) -> fmt::Result {
+fn put_name(names: &[u8], name: NameOffset, out: &mut Out) -> fmt::Result
+    ensures { OnOk result (out.new.written ≡ out.old.written) }
+{
     match name_at(names, name) {
         Some((major, minor)) => {
             out.write_str(" ")?;
@@ -45,7 +49,9 @@ fn put_name(names: &[u8], name: NameOffset, out: &mut Out) -> fmt::Result {
 
 // Who is stuck. This and `queues` differ in the service, in an item's bytes and in its line: one function over three
 // closures would be no plainer.
-pub(crate) fn stuck(t: &Tables, room: u8, out: &mut Out) -> fmt::Result {
+pub(crate) fn stuck(t: &Tables, room: u8, out: &mut Out) -> fmt::Result
+    ensures { OnOk result (out.new.written ≡ out.old.written) }
+{
     let mut list = [UNWRITTEN; STUCK_LIST];
     let length = STUCK_ITEM * usize::from(room);
     let reply = t.stuck(&mut list[..length]).reply;
@@ -64,14 +70,19 @@ pub(crate) fn stuck(t: &Tables, room: u8, out: &mut Out) -> fmt::Result {
 }
 
 // `stuck TASK NAME PARTNER`.
-fn put_stuck(names: &[u8], task: u8, x: &Slot, partner: u8, out: &mut Out) -> fmt::Result {
+#[tactic(auto, using(crate::proofs::Writes::none_failed))]
+fn put_stuck(names: &[u8], task: u8, x: &Slot, partner: u8, out: &mut Out) -> fmt::Result
+    ensures { OnOk result (out.new.written ≡ out.old.written) }
+{
     write!(out, "stuck {task}")?;
     put_name(names, x.name, out)?;
     writeln!(out, " {partner}")
 }
 
 // Who stands in which queue.
-pub(crate) fn queues(t: &Tables, room: u8, out: &mut Out) -> fmt::Result {
+pub(crate) fn queues(t: &Tables, room: u8, out: &mut Out) -> fmt::Result
+    ensures { OnOk result (out.new.written ≡ out.old.written) }
+{
     let mut list = [UNWRITTEN; QUEUES_LIST];
     let length = QUEUE_ITEM * usize::from(room);
     let reply = t.queues(&mut list[..length]).reply;
@@ -90,7 +101,10 @@ pub(crate) fn queues(t: &Tables, room: u8, out: &mut Out) -> fmt::Result {
 }
 
 // `queue NAME TASK own`, or `wait`.
-fn put_queue(names: &[u8], x: &Slot, owner: u8, out: &mut Out) -> fmt::Result {
+#[tactic(auto, using(crate::proofs::Writes::none_failed))]
+fn put_queue(names: &[u8], x: &Slot, owner: u8, out: &mut Out) -> fmt::Result
+    ensures { OnOk result (out.new.written ≡ out.old.written) }
+{
     out.write_str("queue")?;
     put_name(names, x.name, out)?;
     let stands = if owner == 0 { "wait" } else { "own" };

@@ -1,4 +1,6 @@
 // What is written for a line.
+ghost use Rattle.std.specs.Prelude.{◌≡◌, OnOk};
+
 use crate::text::Out;
 use std::fmt;
 use std::fmt::Write;
@@ -13,7 +15,10 @@ pub(crate) enum Said {
 
 impl Said {
     // For line `number` of the script.
-    pub(crate) fn put(self, number: u64, out: &mut Out) -> fmt::Result {
+    #[tactic(auto, using(crate::proofs::Writes::none_failed))]
+    pub(crate) fn put(self, number: u64, out: &mut Out) -> fmt::Result
+        ensures { OnOk result (out.new.written ≡ out.old.written) }
+    {
         match self {
             Said::Nothing => Ok(()),
             Said::Unreadable => writeln!(out, "? {number}"),

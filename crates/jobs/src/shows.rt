@@ -1,4 +1,6 @@
 // What a line shows of the tables: all of them, or a report. They stay as they are.
+ghost use Rattle.std.specs.Prelude.{◌≡◌, OnOk};
+
 use crate::text::Out;
 use crate::{listing, reports};
 use services::Tables;
@@ -18,7 +20,9 @@ pub(crate) enum Shows {
 }
 
 impl Shows {
-    pub(crate) fn put(self, t: &Tables, out: &mut Out) -> fmt::Result {
+    pub(crate) fn put(self, t: &Tables, out: &mut Out) -> fmt::Result
+        ensures { OnOk result (out.new.written ≡ out.old.written) }
+    {
         match self {
             Shows::Tables => listing::dump(t, out),
             Shows::Report { report, room } => report.put(t, room, out),
@@ -27,7 +31,9 @@ impl Shows {
 }
 
 impl Report {
-    fn put(self, t: &Tables, room: u8, out: &mut Out) -> fmt::Result {
+    fn put(self, t: &Tables, room: u8, out: &mut Out) -> fmt::Result
+        ensures { OnOk result (out.new.written ≡ out.old.written) }
+    {
         match self {
             Report::Stuck => reports::stuck(t, room, out),
             Report::Queues => reports::queues(t, room, out),

@@ -1,5 +1,5 @@
 // Bytes to be written, kept in a block until it is full.
-ghost use Rattle.std.specs.Prelude.{◌≡◌, ◌≤◌, OnOk, OnErr, IsErr};
+ghost use Rattle.std.specs.Prelude.{◌≡◌, ◌+◌, ◌<◌, ◌≤◌, OnOk, OnErr, IsOk, IsErr};
 ghost use Rattle.jobs.specs.Sizes.{block_size};
 
 use crate::failure;
@@ -44,6 +44,7 @@ impl Out {
     // Writes the block's bytes, and the block is empty.
     fn flush(&mut self) -> fmt::Result
         ensures emptied { OnOk result (self.new.length ≡ 0) }
+        ensures kept { OnOk result (self.new.written ≡ self.old.written) }
         ensures told { OnErr result (IsErr self.new.written) }
     {
         let n = self.length;
@@ -59,7 +60,9 @@ impl Out {
 
     #[inline]
     fn put(&mut self, byte: u8) -> fmt::Result
-        ensures { OnErr result (IsErr self.new.written) }
+        ensures value { self.old.length < block_size → IsOk result × (self.new.length ≡ self.old.length + 1) }
+        ensures kept { OnOk result (self.new.written ≡ self.old.written) }
+        ensures told { OnErr result (IsErr self.new.written) }
     {
         if self.length == BLOCK {
             self.flush()?;
@@ -71,7 +74,8 @@ impl Out {
 
     // Two lower case digits for each byte: a `write!` of each takes longer.
     pub(crate) fn put_hex(&mut self, bytes: &[u8]) -> fmt::Result
-        ensures { OnErr result (IsErr self.new.written) }
+        ensures kept { OnOk result (self.new.written ≡ self.old.written) }
+        ensures told { OnErr result (IsErr self.new.written) }
     {
         for byte in bytes {
             self.put(DIGITS[usize::from(*byte) / DIGITS.len()])?;
@@ -81,7 +85,10 @@ impl Out {
     }
 
     // Writes what is left, unless a write has failed before.
-    pub(crate) fn finish(&mut self) -> Result<(), Unwritten> {
+    pub(crate) fn finish(&mut self) -> Result<(), Unwritten>
+        ensures emptied { OnOk result (self.new.length ≡ 0) }
+        ensures kept { IsErr self.old.written → result ≡ self.old.written }
+    {
         if self.written.is_ok() {
             let _ = self.flush();
         }
@@ -90,8 +97,11 @@ impl Out {
 }
 
 impl fmt::Write for Out {
+    ghost write_str_gives = { λ before _ after. after.written ≡ before.written };
+
     fn write_str(&mut self, s: &str) -> fmt::Result
-        ensures { OnErr result (IsErr self.new.written) }
+        ensures kept { OnOk result (self.new.written ≡ self.old.written) }
+        ensures told { OnErr result (IsErr self.new.written) }
     {
         for byte in s.as_bytes() {
             self.put(*byte)?;

@@ -11,8 +11,8 @@ use crate::word::Words;
 use crate::{beside, form, number};
 use kinds::{EcbList, NameList, Request};
 
-// Where nothing is asked of the tables there is only something to say. A fresh start takes none of them: it stands
-// apart from a poke, which would else copy them once more.
+// Where nothing is asked of the tables there is only something to say. A fresh start takes none of them, so it stands
+// apart from a poke, which is lent them.
 #[derive(Clone, Copy)]
 pub(crate) enum What {
     Say(Said),

@@ -27,16 +27,34 @@ pub(crate) fn spelt_at(bytes: &[u8], o: usize) -> &[u8]
 }
 
 // The name at the offset is spelt so, with that last byte. It is compared whole only where it has the length and the
-// last byte: most names that differ differ there.
+// last byte: most names that differ differ there. Names of one kind begin alike, so the first byte comes last.
 fn is_spelt(bytes: &[u8], o: usize, name: &[u8], last: u8) -> bool
     requires { (length bytes.now ≤ name_area) × (fits_at bytes.now o ≡ true) × (9 ≤ length name.now)
         × (last ≡ get_or name.now (length name.now - 1) 0) }
     ensures { result ≡ same_bytes name.now (spelt (name_at bytes.now o)) }
 {
     let end = name.len() - 1;
-    bytes[o + 8] as usize + 8 == end
-        && bytes[o + end] == last
-        && lists::same_bytes(name, spelt_at(bytes, o))
+    bytes[o + 8] as usize + 8 == end && bytes[o + end] == last && is_same(name, spelt_at(bytes, o))
+}
+
+// Two spellings are the same. The last byte but one is looked at first, since names of one kind differ near their
+// ends, and the first one last, since they begin alike.
+fn is_same(a: &[u8], b: &[u8]) -> bool
+    ensures { result ≡ same_bytes a.now b.now }
+{
+    match (a, b) {
+        ([.., v, _], [.., w, _]) => v == w && same_from_second(a, b),
+        _ => a == b,
+    }
+}
+
+fn same_from_second(a: &[u8], b: &[u8]) -> bool
+    ensures { result ≡ same_bytes a.now b.now }
+{
+    match (a, b) {
+        ([x, a @ ..], [y, b @ ..]) => a == b && x == y,
+        _ => a.len() == b.len(),
+    }
 }
 
 // One of the first n offsets shows the name that lies at `at`.

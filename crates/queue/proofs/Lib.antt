@@ -11,3 +11,4 @@ pub mod Looking
 pub mod Exclusive
 pub mod Promises
 pub mod Repointing
+pub mod Points

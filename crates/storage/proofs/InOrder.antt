@@ -83,7 +83,7 @@ module _ {A : Type 0} (p q : A → A → Bool) where
   pairs_both (x ∷ l) =
       rw (every_both x l, pairs_both l) (crossed (every (p x) l) (every (q x) l) (pairwise p l) (pairwise q l))
 
-in_order : (l : List Area) → pairwise after l ≡ (areas_rise l && areas_apart l)
+pub in_order : (l : List Area) → pairwise after l ≡ (areas_rise l && areas_apart l)
 unfolding areas_rise areas_apart
 in_order l = pairs_both rises apart l
 

@@ -1,6 +1,6 @@
 // Names of a line: the digits of the major part, a point, those of the minor part, and a slash and a length where it is
 // not that of the bytes given.
-ghost use Rattle.std.specs.Prelude.{◌≡◌, ◌≤◌, length, IfSome};
+ghost use Rattle.std.specs.Prelude.{◌≡◌, ◌*◌, ◌≤◌, length, IfSome};
 ghost use Rattle.jobs.specs.Sizes.{highest_length, major_digits};
 
 use crate::sizes::{HIGHEST_LENGTH, MAJOR_DIGITS, MOST_GIVEN};
@@ -16,7 +16,15 @@ fn major_of(digits: &[u8]) -> Option<[u8; Name::MAJOR]>
     Some(bytes)
 }
 
-// Of the minor part the bytes that have room are kept, up to its length. Missing ones are zero.
+// The minor part that these digits give: the bytes that have room are kept, up to its length. Missing ones are zero.
+fn minor_of(given: &[u8], size: usize) -> Option<[u8; Name::LONGEST]>
+    requires { length given.now ≤ 2 * highest_length }
+{
+    let mut bytes = [0u8; Name::LONGEST];
+    hex::read(given, &mut bytes[..size.min(Name::LONGEST)])?;
+    Some(bytes)
+}
+
 pub(crate) fn read(word: &[u8]) -> Option<Name>
     ensures { IfSome result (λ name. name.length ≤ highest_length) }
 {
@@ -34,12 +42,9 @@ pub(crate) fn read(word: &[u8]) -> Option<Name>
     if HIGHEST_LENGTH < length {
         return None;
     }
-    let major = major_of(digits)?;
-    let mut minor = [0u8; Name::LONGEST];
-    hex::read(given, &mut minor[..length.min(Name::LONGEST)])?;
     Some(Name {
-        major,
-        minor,
+        major: major_of(digits)?,
+        minor: minor_of(given, length)?,
         length: length as u16,
     })
 }

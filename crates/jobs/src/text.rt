@@ -41,12 +41,14 @@ impl Out {
         }
     }
 
-    // Writes the block's bytes, and the block is empty.
+    // Writes the block's bytes, and the block is empty. Where a write has failed before, nothing is written any more.
     fn flush(&mut self) -> fmt::Result
         ensures emptied { OnOk result (self.new.length ≡ 0) }
         ensures kept { OnOk result (self.new.written ≡ self.old.written) }
         ensures told { OnErr result (IsErr self.new.written) }
+        ensures failed { IsErr self.old.written → self.new.written ≡ self.old.written }
     {
+        self.written.map_err(|_| fmt::Error)?;
         let n = self.length;
         self.length = 0;
         match self.stdout.write_all(&self.bytes[..n]) {
@@ -63,6 +65,7 @@ impl Out {
         ensures value { self.old.length < block_size → IsOk result × (self.new.length ≡ self.old.length + 1) }
         ensures kept { OnOk result (self.new.written ≡ self.old.written) }
         ensures told { OnErr result (IsErr self.new.written) }
+        ensures failed { IsErr self.old.written → self.new.written ≡ self.old.written }
     {
         if self.length == BLOCK {
             self.flush()?;
@@ -76,6 +79,7 @@ impl Out {
     pub(crate) fn put_hex(&mut self, bytes: &[u8]) -> fmt::Result
         ensures kept { OnOk result (self.new.written ≡ self.old.written) }
         ensures told { OnErr result (IsErr self.new.written) }
+        ensures failed { IsErr self.old.written → self.new.written ≡ self.old.written }
     {
         for byte in bytes {
             self.put(DIGITS[usize::from(*byte) / DIGITS.len()])?;
@@ -88,10 +92,9 @@ impl Out {
     pub(crate) fn finish(&mut self) -> Result<(), Unwritten>
         ensures emptied { OnOk result (self.new.length ≡ 0) }
         ensures kept { IsErr self.old.written → result ≡ self.old.written }
+        ensures told { result ≡ self.new.written }
     {
-        if self.written.is_ok() {
-            let _ = self.flush();
-        }
+        let _ = self.flush();
         self.written
     }
 }
@@ -102,6 +105,7 @@ impl fmt::Write for Out {
     fn write_str(&mut self, s: &str) -> fmt::Result
         ensures kept { OnOk result (self.new.written ≡ self.old.written) }
         ensures told { OnErr result (IsErr self.new.written) }
+        ensures failed { IsErr self.old.written → self.new.written ≡ self.old.written }
     {
         for byte in s.as_bytes() {
             self.put(*byte)?;
